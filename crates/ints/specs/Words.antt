@@ -1,0 +1,49 @@
+-- What the machine adds: a signed local holds bits, so that each operand is read back from them, `toZ w64 (ofZ w64 x)`, which is x where x fits.
+use mathlib.Core.Path.{_≡_, sym, ap, _∙_}
+use Prim.Native.Nat.{ℕ, suc, _/_, _%_, _≤_, _<_, _^_}
+use native.Mathlib.Omega.{arith}
+use lib.IntN.{ℤ, pos, negsuc, natAbs}
+use lib.Signed.{quotZ, remZ, _<ℤ_}
+use native.Mathlib.Nat.{div-le-self, mod-le}
+use mir.Syntax.{w64}
+use mir.Val.{SFits, toZ, ofZ}
+use mir.Facts.{toZ-ofZ, toZ-pos}
+use Rattle.ints.specs.Bridge.{up, dn, abs, za, neg#}
+
+-- what stands in a need for an operand x
+abbrev pub back : ℤ → ℤ
+back x = toZ w64 (ofZ w64 x)
+
+pub record Back (x y : ℤ) : Type 0 where
+  pub hi : up y ≡ up x
+  pub lo : dn y ≡ dn x
+
+-- of an operand, for `omega`'s list
+pub back# : {x : ℤ} → SFits w64 x → Back x (back x)
+back# {x} f = record { hi = ap up (toZ-ofZ f); lo = ap dn (toZ-ofZ f) }
+
+-- `x == y` at signed numbers is a test of the bits
+pub same-bits : {x y : ℤ} → SFits w64 x → SFits w64 y → ofZ w64 x ≡ ofZ w64 y → x ≡ y
+same-bits {x} {y} f g e = sym (toZ-ofZ f) ∙ ap (toZ w64) e ∙ toZ-ofZ g
+
+pub other-bits : {x y : ℤ} → (ofZ w64 x ≡ ofZ w64 y → ⊥) → x ≡ y → ⊥
+other-bits h e = h (ap (ofZ w64) e)
+
+-- a literal's bits, and those of a number that was cast from `u64`
+pub toZ# : (n : ℕ) → n < 2 ^ 63 → Back (pos n) (toZ w64 n)
+toZ# n h = record { hi = ap up (toZ-pos w64 h); lo = ap dn (toZ-pos w64 h) }
+
+-- the quotient toward zero is no larger than the dividend; a divisor above zero has bits above zero
+pub quot-small : (x y : ℤ) → abs (quotZ x y) ≤ abs x
+quot-small (pos a) (pos b) = omega (arith, div-le-self a b)
+quot-small (pos a) (negsuc b) = omega (arith, div-le-self a (suc b), neg# (pos (a / suc b)))
+quot-small (negsuc a) (pos b) = omega (arith, div-le-self (suc a) b, neg# (pos (suc a / b)))
+quot-small (negsuc a) (negsuc b) = omega (arith, div-le-self (suc a) (suc b))
+
+pub rem-small : (x y : ℤ) → abs (remZ x y) ≤ abs x
+rem-small (pos a) y = omega (arith, mod-le a (natAbs y))
+rem-small (negsuc a) y = omega (arith, mod-le (suc a) (natAbs y), neg# (pos (suc a % natAbs y)))
+
+pub divisor-bits : (y : ℤ) → pos 0 <ℤ y → 0 < ofZ w64 y
+divisor-bits (pos n) h = omega za
+divisor-bits (negsuc n) h = absurd (omega za)

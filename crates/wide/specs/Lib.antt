@@ -1,0 +1,2 @@
+-- What the two-word arithmetic promises.
+pub mod Exact
