@@ -3,6 +3,7 @@
 -- family, `Words` what the machine's 64-bit words add to a whole number.
 pub mod Bridge
 pub mod Order
+pub mod Range
 pub mod Ring
 pub mod Floor
 pub mod Sums

@@ -1,0 +1,94 @@
+// The exact running share of an amount over weights (paper 01, "Units and arithmetic" and "The month file").
+ghost use mathlib.Core.Path.{_≡_};
+ghost use Prim.Native.Nat.{_*_, _≤_, _<_};
+ghost use lib.IntN.{pos, _*ℤ_};
+ghost use Rattle.ints.specs.Bridge.{abs};
+ghost use Rattle.ints.specs.Floor.{floor};
+ghost use Rattle.wide.specs.Exact.{divided};
+ghost use Rattle.share.specs.Answer.{shared, badSums, seenByC};
+use wide::Divided;
+use wide::Ratio;
+
+// 10^17, the limit of amounts and of weight sums.
+const LIMIT: i64 = 100_000_000_000_000_000;
+
+// The answer of `part`: the part, or which argument is out of its limits.
+pub enum Shared {
+    Part(i64),
+    BadAmount,
+    BadTotal,
+    BadSums,
+}
+
+// a × t over w: t is at most w, so the quotient is at most a.
+fn scaled(a: u64, t: u64, w: u64) -> Divided
+    requires { ⌜ (t ≤ w) × (0 < w) ⌝ }
+    ensures { λ r. ⌜ r ≡ divided (a * t) w ⌝ }
+{
+    let r = wide::quotient::of_product(a, t, w);
+    match r {
+        Ratio::Exact(d) => d,
+        Ratio::Over => Divided { quot: 0, rem: 0 },
+        Ratio::ByZero => Divided { quot: 0, rem: 0 },
+    }
+}
+
+// p × t over w rounded down. What is below 0 goes by its size, and a remainder takes it one further down.
+fn floor_of(p: i64, t: u64, w: u64) -> i64
+    requires { ⌜ (abs p ≤ 100000000000000000) × (t ≤ w) × (0 < w) ⌝ }
+    ensures { λ r. ⌜ r ≡ floor (p *ℤ pos t) (pos w) ⌝ }
+{
+    if p < 0 {
+        let d = scaled((-p) as u64, t, w);
+        let q = d.quot as i64;
+        if d.rem == 0 {
+            return -q;
+        }
+        return -q - 1;
+    }
+    let d = scaled(p as u64, t, w);
+    d.quot as i64
+}
+
+// Whether the sums break 0 <= before <= through <= w.
+fn bad_sums(before: i64, through: i64, w: i64) -> bool
+    ensures { λ r. ⌜ r ≡ badSums before through w ⌝ }
+{
+    if before < 0 {
+        return true;
+    }
+    if through < before {
+        return true;
+    }
+    w < through
+}
+
+// The part of p between the weight sums `before` and `through` of w.
+pub fn part(p: i64, before: i64, through: i64, w: i64) -> Shared
+    ensures { λ r. ⌜ r ≡ shared p before through w ⌝ }
+{
+    if ints::outside(-LIMIT, LIMIT, p) {
+        return Shared::BadAmount;
+    }
+    if ints::outside(1, LIMIT, w) {
+        return Shared::BadTotal;
+    }
+    if bad_sums(before, through, w) {
+        return Shared::BadSums;
+    }
+    let upper = floor_of(p, through as u64, w as u64);
+    let lower = floor_of(p, before as u64, w as u64);
+    Shared::Part(upper - lower)
+}
+
+// What C sees of an answer.
+pub fn seen_by_c(s: Shared) -> i64
+    ensures { λ r. ⌜ r ≡ seenByC s ⌝ }
+{
+    match s {
+        Shared::Part(x) => x,
+        Shared::BadAmount => -1_000_000_000_000_000_001,
+        Shared::BadTotal => -1_000_000_000_000_000_002,
+        Shared::BadSums => -1_000_000_000_000_000_003,
+    }
+}
