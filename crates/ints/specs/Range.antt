@@ -1,7 +1,10 @@
--- A value outside its limits, as a test, and what a test that does not hold tells.
-use mathlib.Core.Path.{_≡_, refl}
-use mathlib.Core.Bool.{Bool, true, false, true≢false, _||_}
-use lib.IntN.{ℤ}
+-- Tests on whole numbers: a value outside its limits, two values equal, and what the tests tell.
+use mathlib.Core.Path.{_≡_, refl, sym, ap, _∙_}
+use mathlib.Core.Logic.{_≢_}
+use mathlib.Core.Bool.{Bool, true, false, true≢false, false≢true, _||_}
+use lib.Dec.{eqb}
+use lib.IntN.{ℤ, pos, negsuc}
+use borrow.Author.Tests.{eqb-true, eq-eqb}
 use lib.Signed.{ltZ, _≤ℤ_}
 use Rattle.ints.specs.Bridge.{za}
 
@@ -21,3 +24,23 @@ or-false true b e = absurd (true≢false e)
 pub outside-false : (low high x : ℤ) → outside low high x ≡ false → Within low high x
 unfolding outside
 outside-false low high x e = let f = or-false (ltZ x low) (ltZ high x) e in record { above = omega za; below = omega za }
+
+-- a equals b
+abbrev pub eqZ : ℤ → ℤ → Bool
+eqZ (pos a) (pos b) = eqb a b
+eqZ (pos a) (negsuc b) = false
+eqZ (negsuc a) (pos b) = false
+eqZ (negsuc a) (negsuc b) = eqb a b
+
+pub eqZ-true : (a b : ℤ) → eqZ a b ≡ true → a ≡ b
+eqZ-true (pos a) (pos b) e = ap pos (eqb-true a b e)
+eqZ-true (pos a) (negsuc b) e = absurd (false≢true e)
+eqZ-true (negsuc a) (pos b) e = absurd (false≢true e)
+eqZ-true (negsuc a) (negsuc b) e = ap negsuc (eqb-true a b e)
+
+pub eqZ-refl : (a : ℤ) → eqZ a a ≡ true
+eqZ-refl (pos a) = eq-eqb a a refl
+eqZ-refl (negsuc a) = eq-eqb a a refl
+
+pub eqZ-false : (a b : ℤ) → eqZ a b ≡ false → a ≢ b
+eqZ-false a b e p = true≢false (sym (eqZ-refl a) ∙ ap (λ (x : ℤ). eqZ a x) p ∙ e)

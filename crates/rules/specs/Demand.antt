@@ -1,0 +1,109 @@
+-- Demand 3 in words: a list of closings on a newly opened ledger, and the one claim about the whole list (paper 01, "The tally of
+-- demand 3").
+use Prim.Native.Nat.{ℕ, suc, _<_}
+use mathlib.Core.Path.{_≡_}
+use mathlib.Core.List.{List, [], _∷_, _++_, map}
+use lib.IntN.{ℤ, pos, _+ℤ_, _-ℤ_, _*ℤ_}
+use lib.ListN.{drop, getD}
+use lib.Signed.{_<ℤ_}
+use Rattle.ints.specs.Bridge.{abs}
+use Rattle.ints.specs.Sums.{sumℤ, Σ<}
+use Rattle.rules.specs.declared.Ledger.{Ledger}
+use Rattle.rules.specs.declared.Outcome.{Outcome}
+use Rattle.rules.specs.Verdict.{Verdict, accepted, refused}
+use Rattle.rules.specs.Lines.{Lines}
+use Rattle.rules.specs.Charges.{VDs}
+use Rattle.rules.specs.Credits.{VCs}
+use Rattle.rules.specs.Table.{cellAt}
+use Rattle.rules.specs.Refusals.{State}
+use Rattle.rules.specs.Calls.{verdictOf, lengthsOf, Closes}
+use Rattle.rules.specs.Tally.{Fed, opened, judged, next, after, verdicts, counted, added, chargesLessCompensation, payeeCredit}
+
+-- one closing: what was handed in, what was answered, and the slices as it left them
+pub record Call : Type 0 where
+  pub ledger : Ledger
+  pub held : List ℤ
+  pub lines : Lines
+  pub cells : List ℤ
+  pub work : List ℕ
+  pub outcome : Outcome
+  pub heldLeft : List ℤ
+  pub cellsLeft : List ℤ
+  pub workLeft : List ℕ
+
+-- the promise of closing, of this call
+abbrev pub Promised : Call → Type 0
+Promised c = Closes (c .ledger) (c .held) (c .lines) (c .cells) (c .work) (c .outcome) (c .heldLeft) (c .cellsLeft) (c .workLeft)
+
+-- each closing is handed the ledger and the held credits that the one before it answered and left; the first, those of the opening
+unfoldable pub Chain : Ledger → List ℤ → List Call → Type 0
+Chain g held [] = Unit {0}
+Chain g held (c ∷ cs) = (c .ledger ≡ g) × (c .held ≡ held) × Chain (c .outcome .ledger) (c .heldLeft) cs
+
+-- every call of a list kept its promise
+unfoldable pub AllPromised : List Call → Type 0
+AllPromised [] = Unit {0}
+AllPromised (c ∷ cs) = Promised c × AllPromised cs
+
+-- what the tally is fed of a call
+abbrev pub fed : Call → Fed
+fed c = record { lines = c .lines; lengths = lengthsOf (c .held) (c .cells) (c .work) }
+
+-- the ledger and the held credits after the list
+unfoldable pub lastLedger : Ledger → List Call → Ledger
+lastLedger g [] = g
+lastLedger g (c ∷ cs) = lastLedger (c .outcome .ledger) cs
+
+unfoldable pub lastHeld : List ℤ → List Call → List ℤ
+lastHeld held [] = held
+lastHeld held (c ∷ cs) = lastHeld (c .heldLeft) cs
+
+-- an entry of the cells slice as each accepted closing left it, added over the accepted closings
+unfoldable pub billed : (List ℤ → ℤ) → List Call → ℤ
+billed total [] = pos 0
+billed total (c ∷ cs) = counted (verdictOf (c .outcome .answer)) (total (c .cellsLeft)) +ℤ billed total cs
+
+-- billed cells: for a user those of its column, for a payee those of its row
+abbrev pub billedToUser : ℕ → ℕ → ℕ → List Call → ℤ
+billedToUser users agents j cs = billed (λ cells. Σ< (suc agents) (λ i. cellAt users cells i j)) cs
+
+abbrev pub billedByPayee : ℕ → ℕ → List Call → ℤ
+billedByPayee users i cs = billed (λ cells. Σ< users (λ j. cellAt users cells i j)) cs
+
+-- in an accepted month every cell lies less than one cent from VC × VD / ΣVD: |cell × ΣVD − VC × VD| < ΣVD
+pub record NearCells (users agents : ℕ) (credits : List ℤ) (l : Lines) (cells : List ℤ) : Type 0 where
+  pub near :
+      (i j : ℕ)
+      → i < suc agents
+      → j < users
+      → pos (abs (cellAt users cells i j *ℤ sumℤ (VDs credits l) -ℤ getD (VCs credits l) i (pos 0) *ℤ getD (VDs credits l) j (pos 0)))
+      <ℤ sumℤ (VDs credits l)
+
+abbrev pub WhereAccepted : Verdict → Type 0 → Type 0
+WhereAccepted accepted claim = claim
+WhereAccepted (refused n p) claim = Unit {0}
+
+unfoldable pub AllNear : State → List Call → Type 0
+AllNear s [] = Unit {0}
+AllNear s (c ∷ cs) =
+    WhereAccepted (judged s (fed c)) (NearCells (s .users) (s .agents) (s .credits) (c .lines) (c .cellsLeft)) × AllNear (next s (fed c)) cs
+
+-- Demand 3, of the closings cs after an opening with these counts that was handed the slice heldAtOpening and left g and held
+pub record Demand3 (users agents : ℕ) (heldAtOpening : List ℤ) (g : Ledger) (held : List ℤ) (cs : List Call) : Type 0 where
+  -- each closing was accepted or refused, with number and place, as the tally says
+  pub answers : map (λ (c : Call). verdictOf (c .outcome .answer)) cs ≡ verdicts (opened users agents) (map fed cs)
+  -- the last ledger and held credits are the tally's; entries beyond the users are as they were before the opening
+  pub ledger-users : lastLedger g cs .users ≡ after (opened users agents) (map fed cs) .users
+  pub ledger-agents : lastLedger g cs .agents ≡ after (opened users agents) (map fed cs) .agents
+  pub ledger-month : lastLedger g cs .month ≡ after (opened users agents) (map fed cs) .month
+  pub held-credits : lastHeld held cs ≡ after (opened users agents) (map fed cs) .credits ++ drop users heldAtOpening
+  -- a user's billed cells are its charges less compensation of the accepted months plus the credit that it still holds
+  pub user-total :
+      (j : ℕ)
+      → j < users
+      → billedToUser users agents j cs
+      ≡ added (chargesLessCompensation j) (opened users agents) (map fed cs) +ℤ getD (after (opened users agents) (map fed cs) .credits) j (pos 0)
+  -- a payee's billed cells are its credits of the accepted months
+  pub payee-total : (i : ℕ) → i < suc agents → billedByPayee users i cs ≡ added (payeeCredit i) (opened users agents) (map fed cs)
+  -- every cell of an accepted month lies less than one cent from its exact value
+  pub one-cent : AllNear (opened users agents) cs

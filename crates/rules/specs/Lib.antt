@@ -1,0 +1,12 @@
+-- Paper 01 as definitions, in the paper's order. A reader who holds the paper beside these pages needs to believe nothing else.
+pub mod Verdict
+pub mod Lists
+pub mod Calendar
+pub mod Lines
+pub mod Charges
+pub mod Credits
+pub mod Table
+pub mod Refusals
+pub mod Calls
+pub mod Tally
+pub mod Demand

@@ -1,0 +1,112 @@
+-- Why a month comes back: refusals 1 to 10 of opening and closing, in the paper's order (paper 01, "Why a month comes back").
+use Prim.Native.Nat.{ℕ, _+_, _*_}
+use mathlib.Core.Bool.{Bool, not, _&&_, _||_}
+use mathlib.Core.List.{List, map}
+use lib.Dec.{eqb, ltb}
+use lib.IntN.{ℤ, pos}
+use lib.ListN.{length}
+use lib.Signed.{leZ, ltZ}
+use Rattle.ints.specs.Range.{outside, eqZ}
+use Rattle.ints.specs.Sums.{sumℤ}
+use Rattle.rules.specs.declared.Point.{Point}
+use Rattle.rules.specs.Verdict.{Verdict, when, _then_, eachLine}
+use Rattle.rules.specs.Calendar.{impossibleMonth}
+use Rattle.rules.specs.Lines.{Agent, User, Lines, kindOf, badAmount, badAgent, badUser, badPoint, unfitPoint}
+use Rattle.rules.specs.Charges.{pvTotal, EUSTs, VDs}
+
+-- what a ledger and its held credits stand for: the counts, the last closed month (0 for none), one credit per user
+pub record State : Type 0 where
+  pub users : ℕ
+  pub agents : ℕ
+  pub month : ℤ
+  pub credits : List ℤ
+
+-- the lengths of the slices that a closing is lent
+pub record Lengths : Type 0 where
+  pub held : ℕ
+  pub cells : ℕ
+  pub work : ℕ
+
+-- limits of the counts: 1 to 512 users, 1 to 256 agents, at most 1,024 points
+abbrev pub badUsers : ℕ → Bool
+badUsers n = eqb n 0 || ltb 512 n
+
+abbrev pub badAgents : ℕ → Bool
+badAgents n = eqb n 0 || ltb 256 n
+
+-- entries that a month needs: (agents + 1) × users of cells, twice that plus 4 × (agents + 1 + users) of work
+abbrev pub cellsNeeded : ℕ → ℕ → ℕ
+cellsNeeded users agents = (agents + 1) * users
+
+abbrev pub workNeeded : ℕ → ℕ → ℕ
+workNeeded users agents = 2 * cellsNeeded users agents + 4 * (agents + 1 + users)
+
+-- 1: a count outside its limit or unlike the ledger's, or a last closed month neither 0 nor possible
+unfoldable pub badCounts : State → Lines → Bool
+badCounts s l =
+    badUsers (length (l .users))
+    || badAgents (length (l .agents))
+    || ltb 1024 (length (l .points))
+    || not (eqb (length (l .users)) (s .users))
+    || not (eqb (length (l .agents)) (s .agents))
+    || (not (eqZ (s .month) (pos 0)) && impossibleMonth (s .month))
+
+-- 2: a slice too short; place 1 held, 2 cells, 3 work, the lowest that is
+unfoldable pub shortSlices : State → Lengths → Verdict
+shortSlices s n =
+    when (ltb (n .held) (s .users)) 2 1
+    then when (ltb (n .cells) (cellsNeeded (s .users) (s .agents))) 2 2
+    then when (ltb (n .work) (workNeeded (s .users) (s .agents))) 2 3
+
+-- 3: month impossible, or not later than the last closed
+unfoldable pub badMonth : State → Lines → Bool
+badMonth s l = impossibleMonth (l .month) || leZ (l .month) (s .month)
+
+-- 4: a held credit below 0 or above 10^17; place its user
+abbrev pub creditTest : ℕ → ℤ → Verdict
+creditTest k credit = when (outside (pos 0) (pos 100000000000000000) credit) 4 k
+
+-- each line for 5, 6, 7: a value out of range; a point's user that does not exist; a generator's f column or a distributor's
+-- discount not 0
+abbrev pub agentTest : ℕ → Agent → Verdict
+agentTest k a = when (badAgent k a) 5 k
+
+abbrev pub userTest : ℕ → User → Verdict
+userTest k u = when (badUser k u) 5 k
+
+abbrev pub pointTest : List User → ℕ → Point → Verdict
+pointTest users k p =
+    when (badPoint p) 5 k
+    then when (outside (pos 1) (pos (length users)) (p .user)) 6 k
+    then when (unfitPoint (kindOf users (p .user)) p) 7 k
+
+-- ons, agent, user and point lines in order
+unfoldable pub lineTests : Lines → Verdict
+lineTests l =
+    when (badAmount (l .ons)) 5 0
+    then eachLine agentTest 1 (l .agents)
+    then eachLine userTest 1 (l .users)
+    then eachLine (pointTest (l .users)) 1 (l .points)
+
+-- 8: sum of pb is 0. 9: sum of pv above 0, sum of EUST 0. 10: sum VD is 0
+unfoldable pub sumTests : List ℤ → Lines → Verdict
+sumTests credits l =
+    when (eqZ (sumℤ (map (λ (a : Agent). a .pb) (l .agents))) (pos 0)) 8 0
+    then when (ltZ (pos 0) (pvTotal l) && eqZ (sumℤ (EUSTs l)) (pos 0)) 9 0
+    then when (eqZ (sumℤ (VDs credits l)) (pos 0)) 10 0
+
+-- closing: 1, 2, 3, 4; then the lines; then 8, 9, 10
+unfoldable pub refusal : State → Lengths → Lines → Verdict
+refusal s n l =
+    when (badCounts s l) 1 0
+    then shortSlices s n
+    then when (badMonth s l) 3 0
+    then eachLine creditTest 1 (s .credits)
+    then lineTests l
+    then sumTests (s .credits) l
+
+-- opening gives 1 or 2
+unfoldable pub openingRefusal : ℕ → ℕ → ℕ → Verdict
+openingRefusal users agents heldLength =
+    when (badUsers users || badAgents agents) 1 0
+    then when (ltb heldLength users) 2 1

@@ -1,0 +1,34 @@
+// The record types that the calls share. What they mean is in specs/: paper 01 as definitions.
+
+// A connection point's line (paper 01, "A month's lines"): its user, then peak and off-peak tariff, discount, contracted and
+// verified power.
+pub struct Point {
+    pub user: i64,
+    pub tp: i64,
+    pub tf: i64,
+    pub dp: i64,
+    pub df: i64,
+    pub mp: i64,
+    pub mf: i64,
+    pub vp: i64,
+    pub vf: i64,
+}
+
+// The ledger (paper 01, "The ledger"): the counts of an accepted opening and the last closed month, 0 for none.
+pub struct Ledger {
+    pub users: u64,
+    pub agents: u64,
+    pub month: i64,
+}
+
+// What opening and closing answer: accepted, or refused with paper 01's number and place.
+pub enum Answer {
+    Accepted,
+    Refused(u64, u64),
+}
+
+// The answer of opening or closing, with the ledger that holds from then on.
+pub struct Outcome {
+    pub answer: Answer,
+    pub ledger: Ledger,
+}
