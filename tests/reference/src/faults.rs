@@ -23,7 +23,7 @@ pub struct Fault {
     pub name: &'static str,
     pub block: Block,
     pub number: u64,
-    /// Breaks the line at this index (from 0) of its block; other blocks know no line.
+    /// Breaks the line at this index (from 0) of its block; a block that has no lines takes any index. The month fits.
     pub apply: fn(&mut MonthLines, usize),
 }
 
@@ -41,7 +41,14 @@ impl Fault {
         indexes
     }
 
-    /// The refusal due for the fault at a line.
+    /// Whether the month has the lines that the fault needs: some of its block, and for a point's a user of each kind.
+    pub fn fits(&self, lines: &MonthLines) -> bool {
+        let has_kind = |kind: i64| lines.users.iter().any(|user| user.kind == kind);
+        let has_points = !lines.points.is_empty() && [DISTRIBUTOR, CONSUMER, GENERATOR].into_iter().all(has_kind);
+        !lines.agents.is_empty() && !lines.users.is_empty() && (self.block != Block::Points || has_points)
+    }
+
+    /// The refusal due for the fault at a line of a month that is sound but for it.
     pub fn refusal(&self, line: usize) -> Refusal {
         let place = match self.block {
             Block::Agents | Block::Users | Block::Points => line as u64 + 1,
@@ -98,7 +105,10 @@ pub fn all() -> Vec<Fault> {
         fault!("no users", Counts, 1, |m, _| m.users.clear()),
         fault!("an agent more", Counts, 1, |m, _| m.agents.push(m.agents[0])),
         fault!("no agents", Counts, 1, |m, _| m.agents.clear()),
-        fault!("points beyond the limit", Counts, 1, |m, _| m.points.resize(MAX_POINTS as usize + 1, m.points[0])),
+        fault!("points beyond the limit", Counts, 1, |m, _| {
+            let point = Point::from_columns([1, 0, 0, 0, 0, 0, 0, 0, 0]);
+            m.points.resize(MAX_POINTS as usize + 1, point);
+        }),
         fault!("month 0", Month, 3, |m, _| m.month = 0),
         fault!("month -202407", Month, 3, |m, _| m.month = -202_407),
         fault!("month 13", Month, 3, |m, _| m.month = 202_413),

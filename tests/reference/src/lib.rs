@@ -15,6 +15,7 @@
 //! | `ledger` | opening and closing |
 //! | `tally` | the tally of demand 3, and demand 3 over a list of closings |
 //! | `program` | what `settle` prints, and whether an output is right |
+//! | `sample` | the worked file and its output |
 //! | `json`, `vectors` | the vector files, and the comparison with them |
 //! | `rng`, `months`, `faults`, `texts` | seeded cases: months, what breaks them, files and damaged files |
 
@@ -30,6 +31,7 @@ pub mod program;
 pub mod read;
 pub mod refusals;
 pub mod rng;
+pub mod sample;
 pub mod share;
 pub mod table;
 pub mod tally;

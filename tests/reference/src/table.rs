@@ -80,22 +80,16 @@ pub fn all_tables(vc: &[i128], vd: &[i128]) -> Vec<Vec<i64>> {
 /// gets stuck and comes back to a line it has been to. Around that ring, rests are raised and lowered in turn by what
 /// the tightest of them allows: no line's total changes and at least one cell stops being open. This repeats until no
 /// cell is open, which is also why a table always exists.
+///
+/// The table's lines are numbered, its rows first and its columns after them.
 struct Rounding {
     payees: usize,
     users: usize,
     total: i128,
     floor: Vec<i64>,
     rest: Vec<i128>,
-    /// By row and by column: no cell before this one is open. Cells never open again, so a search can start here.
-    first_in_row: Vec<usize>,
-    first_in_column: Vec<usize>,
-}
-
-/// A line of the table, as the walk sees it: rows and columns by turns.
-#[derive(Clone, Copy, PartialEq, Eq)]
-enum Line {
-    Row(usize),
-    Column(usize),
+    /// By line: no cell before this one is open. Cells never open again, so a search can start here.
+    first_open: Vec<usize>,
 }
 
 impl Rounding {
@@ -112,46 +106,53 @@ impl Rounding {
                 rests.push(rest);
             }
         }
-        Rounding {
-            payees: vc.len(),
-            users: vd.len(),
-            total,
-            floor: floors,
-            rest: rests,
-            first_in_row: vec![0; vc.len()],
-            first_in_column: vec![0; vd.len()],
-        }
+        let first_open = vec![0; vc.len() + vd.len()];
+        Rounding { payees: vc.len(), users: vd.len(), total, floor: floors, rest: rests, first_open }
     }
 
     /// Goes on until no cell is open; `raise` decides, ring by ring, whether its first cell goes up or down.
     fn finish(mut self, mut raise: impl FnMut() -> bool) -> Vec<i64> {
-        for start in 0..self.payees {
-            while self.open_cell(Line::Row(start), None).is_some() {
-                self.round_ring_from(start, raise());
-            }
+        for row in 0..self.payees {
+            self.close_row(row, &mut raise);
         }
         let whole = self.floor.iter().zip(&self.rest).map(|(floor, &rest)| floor + i64::from(rest != 0));
         whole.collect()
     }
 
-    /// Walks from a row that has an open cell until a line comes again, and rounds that ring.
-    fn round_ring_from(&mut self, row: usize, raise: bool) {
-        let mut lines = vec![Line::Row(row)];
-        let mut cells = Vec::new();
-        let ring_start = loop {
-            let here = lines[lines.len() - 1];
-            let cell = self.open_cell(here, cells.last().copied()).expect("an open line has a second open cell");
-            cells.push(cell);
-            let next = match here {
-                Line::Row(_) => Line::Column(cell % self.users),
-                Line::Column(_) => Line::Row(cell / self.users),
+    /// Walks from a row, and rounds each ring the walk comes to, until the row has no open cell.
+    fn close_row(&mut self, row: usize, raise: &mut impl FnMut() -> bool) {
+        let mut lines = vec![row];
+        let mut cells: Vec<usize> = Vec::new();
+        // By line: its place on the walk.
+        let mut place = vec![None; self.payees + self.users];
+        place[row] = Some(0);
+        loop {
+            let here = lines[cells.len()];
+            let cell = match self.open_cell(here, cells.last().copied()) {
+                Some(cell) => cell,
+                None => {
+                    assert!(cells.is_empty(), "a line that was come to by an open cell has a second one");
+                    return;
+                }
             };
-            if let Some(before) = lines.iter().position(|&line| line == next) {
-                break before;
+            cells.push(cell);
+            let next = self.crossing(here, cell);
+            match place[next] {
+                None => {
+                    place[next] = Some(lines.len());
+                    lines.push(next);
+                }
+                // The walk goes on from where the ring began: the cells before it are as they were.
+                Some(ring) => {
+                    self.round_ring(&cells[ring..], raise());
+                    lines.drain(ring + 1..).for_each(|line| place[line] = None);
+                    cells.truncate(ring);
+                }
             }
-            lines.push(next);
-        };
-        let ring = &cells[ring_start..];
+        }
+    }
+
+    fn round_ring(&mut self, ring: &[usize], raise: bool) {
         let rises = |step: usize| (step % 2 == 0) == raise;
         let room = |step: usize| if rises(step) { self.total - self.rest[ring[step]] } else { self.rest[ring[step]] };
         let change = (0..ring.len()).map(room).min().expect("a ring has cells");
@@ -161,21 +162,34 @@ impl Rounding {
     }
 
     /// The first open cell of a line other than `except`.
-    fn open_cell(&mut self, line: Line, except: Option<usize>) -> Option<usize> {
-        let (users, total) = (self.users, self.total);
-        let (first, length) = match line {
-            Line::Row(row) => (&mut self.first_in_row[row], users),
-            Line::Column(column) => (&mut self.first_in_column[column], self.payees),
-        };
-        let cell = |k: usize| match line {
-            Line::Row(row) => row * users + k,
-            Line::Column(column) => k * users + column,
-        };
-        let rest = &self.rest;
-        let is_open = |k: usize| 0 < rest[cell(k)] && rest[cell(k)] < total;
-        while *first < length && !is_open(*first) {
-            *first += 1;
+    fn open_cell(&mut self, line: usize, except: Option<usize>) -> Option<usize> {
+        let length = if line < self.payees { self.users } else { self.payees };
+        while self.first_open[line] < length && !self.is_open(self.cell(line, self.first_open[line])) {
+            self.first_open[line] += 1;
         }
-        (*first..length).find(|&k| is_open(k) && Some(cell(k)) != except).map(cell)
+        let mut cells = (self.first_open[line]..length).map(|k| self.cell(line, k));
+        cells.find(|&cell| self.is_open(cell) && Some(cell) != except)
+    }
+
+    fn is_open(&self, cell: usize) -> bool {
+        0 < self.rest[cell] && self.rest[cell] < self.total
+    }
+
+    /// The cell at place `k` of a line.
+    fn cell(&self, line: usize, k: usize) -> usize {
+        if line < self.payees {
+            line * self.users + k
+        } else {
+            k * self.users + (line - self.payees)
+        }
+    }
+
+    /// The line that crosses this one at a cell.
+    fn crossing(&self, line: usize, cell: usize) -> usize {
+        if line < self.payees {
+            self.payees + cell % self.users
+        } else {
+            cell / self.users
+        }
     }
 }

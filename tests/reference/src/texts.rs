@@ -135,7 +135,7 @@ pub fn run_input(rng: &mut Rng, most: Counts) -> Vec<u8> {
     let mut input = Vec::new();
     for _ in 0..1 + rng.below(6) {
         let style = rng.pick(&STYLES);
-        let mut lines = if rng.chance(80) {
+        let mut lines = if rng.chance(90) {
             months::sound_month(rng, style, counts)
         } else {
             let counts = months::counts_up_to(rng, most);
@@ -143,12 +143,8 @@ pub fn run_input(rng: &mut Rng, most: Counts) -> Vec<u8> {
         };
         lines.month = date;
         date = if rng.chance(85) { months::next_month(date) } else { months::any_month(rng) };
-        // The faults need lines of each kind and a user of each kind.
-        if rng.chance(15) {
-            let style = rng.pick(&STYLES);
-            lines = faults::sound_base(rng, style);
-            let all = faults::all();
-            let fault = all[rng.below(all.len())];
+        let fault = rng.pick(&faults::all());
+        if rng.chance(20) && fault.fits(&lines) {
             let line = rng.pick(&fault.lines(&lines));
             (fault.apply)(&mut lines, line);
         }
