@@ -138,10 +138,10 @@ fn totals_of_a_month() {
         assert_eq!(total(&credits.vc), total(&charges.vd));
         assert_eq!(total(&credits.vmant), credits.smse);
         assert_eq!(credits.vc.last(), Some(&i128::from(lines.ons)));
-        for j in 0..counts.users {
+        for (j, &credit) in held.iter().enumerate() {
             assert!(charges.vd[j] >= 0 && charges.held[j] >= 0);
             assert!(charges.vd[j] == 0 || charges.held[j] == 0);
-            assert_eq!(charges.vd[j] - charges.held[j], charges.vme[j] - charges.cpv[j] - held[j]);
+            assert_eq!(charges.vd[j] - charges.held[j], charges.vme[j] - charges.cpv[j] - credit);
             if charges.eust[j] == 0 {
                 assert_eq!(charges.cpv[j], 0);
             }

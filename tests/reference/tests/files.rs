@@ -67,6 +67,16 @@ fn can_be_ended(start: &[u8], endings: &[Vec<u8>]) -> bool {
     endings.iter().any(|ending| is_files(&[start, ending].concat()))
 }
 
+/// Where the first file of a text ends, if it is sound: with the text or before a byte `m`.
+fn end_of_first(text: &[u8]) -> Option<usize> {
+    let may_end = |&end: &usize| end == text.len() || text[end] == b'm';
+    let is_one_file = |&end: &usize| {
+        let file = &text[..end];
+        is_files(file) && file.windows(MONTH_NAMES.len()).filter(|names| *names == MONTH_NAMES.as_bytes()).count() == 1
+    };
+    (0..=text.len()).filter(may_end).find(is_one_file)
+}
+
 /// Checks the file check's answer: accepted where the text is files on end; else its place is that of the first byte
 /// that no accepted text could have there, or the text's length.
 fn check_place(text: &[u8], endings: &[Vec<u8>]) {
@@ -81,6 +91,9 @@ fn check_place(text: &[u8], endings: &[Vec<u8>]) {
             assert!(!can_be_ended(&text[..=place], endings), "too early, {}: {:?}", place, shown);
         }
     }
+    // Reading takes the first file alone; where that one is faulty, its place is the file check's.
+    let read = read_month(text, 0, ANY_COUNT).map(|(_, next)| next);
+    assert_eq!(read, end_of_first(text).ok_or(Refusal::new(11, answer as u64)), "{:?}", shown);
 }
 
 #[test]
@@ -153,6 +166,24 @@ fn small_faults_of_values() {
     assert_eq!(check_text(&[text, b"m"].concat()), text.len() as i64 + 1);
     assert_eq!(check_text(&[text, text].concat()), -1);
     assert_eq!(check_text(b""), 0);
+}
+
+#[test]
+fn what_may_follow_a_file() {
+    let no_points = format!("month,ons\n1,1\n{}{}{}", AGENT_NAMES, USER_NAMES, POINT_NAMES);
+    for file in [sample::INPUT, &no_points] {
+        for byte in 0..=u8::MAX {
+            let text = [file.as_bytes(), &[byte]].concat();
+            let next = read_month(&text, 0, ANY_COUNT).map(|(_, next)| next);
+            let due = match byte {
+                b'm' => Ok(file.len()),
+                // A point line begins, and the text ends in it.
+                b'0'..=b'9' | b'-' => Err(Refusal::new(11, text.len() as u64)),
+                _ => Err(Refusal::new(11, file.len() as u64)),
+            };
+            assert_eq!(next, due, "{}", byte);
+        }
+    }
 }
 
 #[test]

@@ -35,6 +35,36 @@ fn tables_are_found_among_all() {
 }
 
 #[test]
+fn every_choice_of_odd_cents_is_judged() {
+    let mut rng = Rng::new(15);
+    // Choices with right totals: tables, and those that give a whole cell a cent.
+    let (mut tables, mut whole_raised) = (0, 0);
+    for _ in 0..1_000 {
+        let most = rng.pick(&[3, 6, 12]);
+        let (vc, vd) = totals(&mut rng, 3, 3, most, false);
+        let total: i128 = vd.iter().sum();
+        let all = all_tables(&vc, &vd);
+        let mut found = 0;
+        for choice in 0..1 << 9 {
+            let raised = |i: usize, j: usize| choice >> (i * 3 + j) & 1 == 1;
+            let cell = |i: usize, j: usize| (vc[i] * vd[j]).div_euclid(total) + i128::from(raised(i, j));
+            let row = |i: usize| (0..3).map(|j| cell(i, j)).sum::<i128>() == vc[i];
+            let column = |j: usize| (0..3).map(|i| cell(i, j)).sum::<i128>() == vd[j];
+            let is_whole = |k: usize| vc[k / 3] * vd[k % 3] % total == 0;
+            let raises_whole = (0..9).any(|k| is_whole(k) && raised(k / 3, k % 3));
+            let cells: Vec<i64> = (0..9).map(|k| cell(k / 3, k % 3) as i64).collect();
+            let right_totals = (0..3).all(row) && (0..3).all(column);
+            assert_eq!(is_table(&vc, &vd, &cells).is_ok(), right_totals && !raises_whole);
+            whole_raised += usize::from(right_totals && raises_whole);
+            found += usize::from(right_totals && !raises_whole);
+        }
+        assert_eq!(found, all.len());
+        tables += found;
+    }
+    assert!(tables > 300 && whole_raised > 30, "both have to come up: {} {}", tables, whole_raised);
+}
+
+#[test]
 fn tables_of_months() {
     let mut rng = Rng::new(12);
     for _ in 0..1_000 {
