@@ -226,7 +226,7 @@ fn the_tally_agrees_over_lists_of_closings() {
         assert_eq!(held[counts.users..], [MARK; 2]);
     }
     assert!(accepted > 2_000, "most closings are accepted: {}", accepted);
-    // A ledger that only grows from an opening never shows a credit below 0, so 4 does not come up here.
+    // Credits that closings themselves left are never below 0, and in so few months none passes 10^17: no 4 here.
     let unseen: Vec<usize> = (1..=10).filter(|&number| refused[number] == 0).collect();
     assert_eq!(unseen, [4], "every other refusal comes up: {:?}", refused);
 }
