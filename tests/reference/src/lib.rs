@@ -1,8 +1,8 @@
 //! The settlement of the basic grid, worked out once more for the tests to compare the product with.
 //!
-//! Everything here follows the specification ("Rateio: monthly settlement of the basic grid") and nothing else: neither
-//! the product's definitions nor its code. Amounts are `i128`, so that no product of two of them needs two words, and
-//! nothing is arranged for speed beyond what the tests need.
+//! Everything here follows the specification ("Rateio: monthly settlement of the basic grid") and the readings decided
+//! for its open points, and neither the product's definitions nor its code. Amounts are `i128`, so that no product of
+//! two of them needs two words, and nothing is arranged for speed beyond what the tests need.
 //!
 //! | module | what it holds |
 //! |---|---|
