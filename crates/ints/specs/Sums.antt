@@ -13,7 +13,7 @@ use mir.Syntax.{w64}
 use mir.Val.{SFits}
 use Rattle.ints.specs.Bridge.{abs, za, add#}
 use Rattle.ints.specs.Ring.{all3, all4, diff}
-use Rattle.ints.specs.Order.{add-mono, ≤-refl}
+use Rattle.ints.specs.Order.{add-mono, ≤-refl, ≤-trans, ≡→≤}
 
 -- ---- of a list
 unfoldable pub sumℤ : List ℤ → ℤ
@@ -76,6 +76,46 @@ small-add-fits K xs i w k h s = omega (za, s .small i h, add# (getD xs i (pos 0)
 pub turn-fits : (K : ℕ) (xs : List ℤ) (i : ℕ) → K * length xs < 2 ^ 63 → i < length xs → Small K xs → SFits w64 (sumℤ (take i xs) +ℤ getD xs i (pos 0))
 turn-fits K xs i k h s =
     omega (za, s .small i h, sum-take-small K xs i s (omega arith), mul-le-mul-left K h, add# (sumℤ (take i xs)) (getD xs i (pos 0)))
+
+-- none of the list is negative: so is no part's sum, and a longer part's is at least as large
+pub record NonNeg (xs : List ℤ) : Type 0 where
+  pub at : (i : ℕ) → i < length xs → pos 0 ≤ℤ getD xs i (pos 0)
+
+pub nonneg-none : NonNeg []
+nonneg-none = record { at = λ i h. absurd (not-suc-le-zero h) }
+
+pub nonneg-more : {x : ℤ} {xs : List ℤ} → pos 0 ≤ℤ x → NonNeg xs → NonNeg (x ∷ xs)
+nonneg-more {x} {xs} h k = record { at = go }
+  where
+    go : (i : ℕ) → i < length (x ∷ xs) → pos 0 ≤ℤ getD (x ∷ xs) i (pos 0)
+    go zero l = h
+    go (suc i) l = k .at i (le-of-suc-le-suc l)
+
+pub nonneg-head : {x : ℤ} {xs : List ℤ} → NonNeg (x ∷ xs) → pos 0 ≤ℤ x
+nonneg-head h = h .at 0 (suc-le-suc zero-le)
+
+pub nonneg-tail : {x : ℤ} {xs : List ℤ} → NonNeg (x ∷ xs) → NonNeg xs
+nonneg-tail h = record { at = λ i k. h .at (suc i) (suc-le-suc k) }
+
+pub sum-nonneg : (xs : List ℤ) → NonNeg xs → pos 0 ≤ℤ sumℤ xs
+unfolding sumℤ
+sum-nonneg [] h = ≤-refl (pos 0)
+sum-nonneg (x ∷ xs) h = omega (za, nonneg-head h, sum-nonneg xs (nonneg-tail h), add# x (sumℤ xs))
+
+pub sum-take-nonneg : (xs : List ℤ) (i : ℕ) → NonNeg xs → pos 0 ≤ℤ sumℤ (take i xs)
+unfolding sumℤ
+sum-take-nonneg xs zero h = ≡→≤ (sym (sum-start xs))
+sum-take-nonneg [] (suc i) h = ≤-refl (pos 0)
+sum-take-nonneg (x ∷ xs) (suc i) h = omega (za, nonneg-head h, sum-take-nonneg xs i (nonneg-tail h), add# x (sumℤ (take i xs)))
+
+pub sum-take-rises : (xs : List ℤ) (i : ℕ) → NonNeg xs → i < length xs → sumℤ (take i xs) ≤ℤ sumℤ (take (i + 1) xs)
+sum-take-rises xs i h l = rw (sum-more xs i (pos 0) l) (omega (za, h .at i l, add# (sumℤ (take i xs)) (getD xs i (pos 0))))
+
+pub sum-take-le : (xs : List ℤ) (i : ℕ) → NonNeg xs → sumℤ (take i xs) ≤ℤ sumℤ xs
+unfolding sumℤ
+sum-take-le xs zero h = ≤-trans (≡→≤ (sum-start xs)) (sum-nonneg xs h)
+sum-take-le [] (suc i) h = ≤-refl (pos 0)
+sum-take-le (x ∷ xs) (suc i) h = add-mono (≤-refl x) (sum-take-le xs i (nonneg-tail h))
 
 -- a store
 pub sum-set : (xs : List ℤ) (i : ℕ) (v d : ℤ) → i < length xs → sumℤ (set xs i v) ≡ sumℤ xs +ℤ (v -ℤ getD xs i d)

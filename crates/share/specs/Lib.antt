@@ -1,4 +1,7 @@
--- `Running` is the running share of paper 01, `Answer` what the exported share answers, `Laws` what holds of every running share.
+-- `Running` is the running share of paper 01, `Answer` what the exported share answers, `OnePart` and `Laws` what holds of every part
+-- and of every running share.
 pub mod Running
 pub mod Answer
+pub mod OnePart
 pub mod Laws
+pub mod Cases
