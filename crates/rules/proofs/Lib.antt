@@ -2,3 +2,5 @@
 pub mod Sides
 pub mod Entries
 pub mod Totals
+pub mod Blind
+pub mod Cycle
