@@ -5,3 +5,4 @@ pub mod Fits
 pub mod Passed
 pub mod Sizes
 pub mod Entries
+pub mod Near
