@@ -14,12 +14,13 @@ use lib.Signed.{ltZ}
 use Rattle.ints.specs.Bridge.{za, up, dn, add#, sub#, mul#, one#}
 use Rattle.ints.specs.Computed.{below, below-at, below-both}
 use Rattle.ints.specs.Floor.{floor, Floor#, floor-is, floor-in}
-use Rattle.ints.specs.Range.{Within, outside, or-false, outside-false, eqZ, eqZ-true}
+use Rattle.ints.specs.Range.{Within, eqZ, eqZ-true}
 use Rattle.ints.specs.Sums.{Σ<, Σ-ext}
 use Rattle.share.specs.OnePart.{floor-none, floor-whole}
-use Rattle.rules.specs.Calendar.{monthOfYear, impossibleMonth, cycleMonth}
+use Rattle.rules.specs.Calendar.{monthOfYear, cycleMonth}
 use Rattle.rules.specs.Lines.{Agent}
 use Rattle.rules.specs.Credits.{VMPA}
+use Rattle.rules.proofs.Fits.{Possible}
 
 -- ---- the calendar
 -- yyyymm of a year and a month
@@ -125,12 +126,12 @@ pub record Dated (m : ℤ) : Type 0 where
   pub last : mm ≤ 12
   pub is : m ≡ yyyymm year mm
 
-pub dated : (m : ℤ) → Within (pos 200001) (pos 209912) m → Within (pos 1) (pos 12) (monthOfYear m) → Dated m
+pub dated : (m : ℤ) → Possible m → Dated m
 unfolding monthOfYear
-dated m a b = go (floor m (pos 100)) (floor-in (floor-is m 100 (omega arith))) b
+dated m p = go (floor m (pos 100)) (floor-in (floor-is m 100 (omega arith))) (p .year) (p .mm)
   where
-    go : (q : ℤ) → Floor# m 100 q → Within (pos 1) (pos 12) (m -ℤ q *ℤ pos 100) → Dated m
-    go q f c =
+    go : (q : ℤ) → Floor# m 100 q → Within (pos 200001) (pos 209912) m → Within (pos 1) (pos 12) (m -ℤ q *ℤ pos 100) → Dated m
+    go q f a c =
         let r = sub# m (q *ℤ pos 100) in
         let p = mul# q (pos 100) in
         let z : dn q ≡ 0 = omega (za, one# q) in
@@ -144,10 +145,10 @@ dated m a b = go (floor m (pos 100)) (floor-in (floor-is m 100 (omega arith))) b
           is = omega (za, one# (m -ℤ q *ℤ pos 100));
         }
 
-pub cycle-within : (m : ℤ) → Within (pos 1) (pos 12) (monthOfYear m) → Within (pos 1) (pos 12) (cycleMonth m)
+pub cycle-within : (m : ℤ) → Possible m → Within (pos 1) (pos 12) (cycleMonth m)
 unfolding cycleMonth
-cycle-within m h = go (ltZ (monthOfYear m) (pos 7)) refl
+cycle-within m p = go (ltZ (monthOfYear m) (pos 7)) refl
   where
     go : (t : Bool) → ltZ (monthOfYear m) (pos 7) ≡ t → Within (pos 1) (pos 12) (cond t (monthOfYear m +ℤ pos 6) (monthOfYear m -ℤ pos 6))
-    go true e = let s = add# (monthOfYear m) (pos 6) in record { above = omega za; below = omega za }
-    go false e = let s = sub# (monthOfYear m) (pos 6) in record { above = omega za; below = omega za }
+    go true e = let h = p .mm in let s = add# (monthOfYear m) (pos 6) in record { above = omega za; below = omega za }
+    go false e = let h = p .mm in let s = sub# (monthOfYear m) (pos 6) in record { above = omega za; below = omega za }
