@@ -10,3 +10,4 @@ pub mod Floor
 pub mod Sums
 pub mod Words
 pub mod Computed
+pub mod Bounds

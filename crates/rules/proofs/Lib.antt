@@ -12,3 +12,4 @@ pub mod Sides
 pub mod Totals
 pub mod Blind
 pub mod Cycle
+pub mod BoundsPoint
