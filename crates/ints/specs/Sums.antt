@@ -56,7 +56,7 @@ sum-end xs i e = ap (λ (k : ℕ). sumℤ (take k xs)) e ∙ ap sumℤ (take-all
 pub record Small (K : ℕ) (xs : List ℤ) : Type 0 where
   pub small : (i : ℕ) → i < length xs → abs (getD xs i (pos 0)) ≤ K
 
-small-tail : {K : ℕ} {x : ℤ} {xs : List ℤ} → Small K (x ∷ xs) → Small K xs
+pub small-tail : {K : ℕ} {x : ℤ} {xs : List ℤ} → Small K (x ∷ xs) → Small K xs
 small-tail h = record { small = λ i k. h .small (suc i) (suc-le-suc k) }
 
 pub sum-take-small : (K : ℕ) (xs : List ℤ) (i : ℕ) → Small K xs → i ≤ length xs → abs (sumℤ (take i xs)) ≤ K * i
