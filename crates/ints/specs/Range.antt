@@ -44,3 +44,10 @@ eqZ-refl (negsuc a) = eq-eqb a a refl
 
 pub eqZ-false : (a b : ℤ) → eqZ a b ≡ false → a ≢ b
 eqZ-false a b e p = true≢false (sym (eqZ-refl a) ∙ ap (λ (x : ℤ). eqZ a x) p ∙ e)
+
+pub eqZ-not : (a b : ℤ) → a ≢ b → eqZ a b ≡ false
+eqZ-not a b h = go (eqZ a b) refl
+  where
+    go : (t : Bool) → eqZ a b ≡ t → t ≡ false
+    go true e = absurd (h (eqZ-true a b e))
+    go false e = refl

@@ -1,14 +1,15 @@
 -- What the machine adds: a signed local holds bits, so that each operand is read back from them, `toZ w64 (ofZ w64 x)`, which is x where x fits.
-use mathlib.Core.Path.{_≡_, sym, ap, _∙_}
+use mathlib.Core.Path.{_≡_, refl, sym, ap, _∙_}
 use Prim.Native.Nat.{ℕ, suc, _/_, _%_, _≤_, _<_, _^_}
 use native.Mathlib.Omega.{arith}
 use lib.IntN.{ℤ, pos, negsuc, natAbs}
-use lib.Signed.{quotZ, remZ, _<ℤ_}
+use lib.Signed.{quotZ, remZ, _≤ℤ_, _<ℤ_}
 use native.Mathlib.Nat.{div-le-self, mod-le}
 use mir.Syntax.{w64}
 use mir.Val.{SFits, toZ, ofZ}
 use mir.Facts.{toZ-ofZ, toZ-pos}
 use Rattle.ints.specs.Bridge.{up, dn, abs, za, neg#}
+use Rattle.ints.specs.Floor.{floor}
 
 -- what stands in a need for an operand x
 abbrev pub back : ℤ → ℤ
@@ -47,3 +48,9 @@ rem-small (negsuc a) y = omega (arith, mod-le (suc a) (natAbs y), neg# (pos (suc
 pub divisor-bits : (y : ℤ) → pos 0 <ℤ y → 0 < ofZ w64 y
 divisor-bits (pos n) h = omega za
 divisor-bits (negsuc n) h = absurd (omega za)
+
+-- of a dividend that is not negative it is the floor
+pub quot-floor : (x : ℤ) (w : ℕ) → pos 0 ≤ℤ x → quotZ x (pos w) ≡ floor x (pos w)
+unfolding floor
+quot-floor (pos a) w h = refl
+quot-floor (negsuc a) w h = absurd (omega za)
