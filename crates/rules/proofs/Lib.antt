@@ -13,3 +13,5 @@ pub mod Totals
 pub mod Blind
 pub mod Cycle
 pub mod BoundsPoint
+pub mod PerUser
+pub mod BoundsCharges
