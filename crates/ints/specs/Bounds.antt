@@ -58,6 +58,23 @@ word-mul {H} {G} {x} {y} v w t =
     (omega (arith, ap (λ (n : ℕ). n * dn y) a, mul-le-mul (v .high) (w .high)))
     t
 
+-- of any number and one that is not negative
+pub word-scale : {L H G : ℕ} {x y : ℤ} → Word L H x → Word 0 G y → T (ltb (L * G + H * G) (2 ^ 63)) → Word (L * G) (H * G) (x *ℤ y)
+word-scale {L} {H} {G} {x} {y} v w t =
+    let b : dn y ≡ 0 = omega arith in
+    let m = mul# x y in
+    word
+    (omega (arith, ap (λ (n : ℕ). up x * n) b, mul-le-mul (v .low) (w .high)))
+    (omega (arith, ap (λ (n : ℕ). dn x * n) b, mul-le-mul (v .high) (w .high)))
+    t
+
+-- a number no larger in size than another
+pub word-within : {L H : ℕ} {x : ℤ} (K : ℕ) (y : ℤ) → abs y ≤ abs x → Word L H x → T (leb L K) → T (leb H K) → T (ltb (K + K) (2 ^ 63)) → Word K K y
+word-within {L} {H} {x} K y h w l k t =
+    let a = leb→le L K l in
+    let b = leb→le H K k in
+    word (omega (arith, one# x)) (omega (arith, one# x)) t
+
 -- of a number that is not negative, rounded down
 pub word-floor : {X : ℕ} {x : ℤ} (H w : ℕ) → Word 0 X x → T (ltb 0 w) → T (ltb X (suc H * w)) → T (ltb (0 + H) (2 ^ 63)) → Word 0 H (floor x (pos w))
 unfolding floor

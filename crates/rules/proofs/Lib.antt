@@ -15,3 +15,6 @@ pub mod Cycle
 pub mod BoundsPoint
 pub mod PerUser
 pub mod BoundsCharges
+pub mod BoundsCredits
+pub mod Bounds
+pub mod Examples
