@@ -1,6 +1,6 @@
 -- Laws of the running share (paper 01, "Running share"), for every list of weights and an amount P of either sign. Each asks only what
 -- it needs: total and nearness a weight sum above 0, sign and size also that no weight is negative, the others nothing.
-use Prim.Native.Nat.{ℕ, zero, suc, _+_, _≤_, _<_}
+use Prim.Native.Nat.{ℕ, zero, suc, _+_, _<_}
 use native.Mathlib.Numerals.{add-one}
 use mathlib.Core.Path.{_≡_, refl, sym, ap, ap₂, _∙_}
 use mathlib.Core.List.{List, [], _∷_, _++_}
@@ -93,14 +93,25 @@ module _ (P : ℤ) (us : List ℤ) where
   same-sum : (vs ws : List ℤ) → sumℤ vs ≡ sumℤ ws → sumℤ (us ++ vs) ≡ sumℤ (us ++ ws)
   same-sum vs ws e = rw (sum-append us vs, sum-append us ws, e)
 
-  pub part-out : (vs : List ℤ) → let W = sumℤ (us ++ vs) in LeftOut (runningShare P (us ++ pos 0 ∷ vs)) (runningShare P (us ++ vs)) (partsFrom P W (pos 0) us) (partsFrom P W (sumℤ us) vs)
+  pub part-out :
+      (vs : List ℤ)
+      → let W = sumℤ (us ++ vs) in
+      LeftOut (runningShare P (us ++ pos 0 ∷ vs)) (runningShare P (us ++ vs)) (partsFrom P W (pos 0) us) (partsFrom P W (sumℤ us) vs)
   unfolding partsFrom sumℤ
   part-out vs = record {
     kept = share-append P us (pos 0 ∷ vs) (same-sum (pos 0 ∷ vs) vs (+ℤ-idl (sumℤ vs))) ∙ simp (+ℤ-idr, part-none);
     out = share-append P us vs refl;
   }
 
-  pub part-join : (a b : ℤ) (vs : List ℤ) → let W = sumℤ (us ++ a ∷ b ∷ vs) in let B = sumℤ us in Joined (runningShare P (us ++ a ∷ b ∷ vs)) (runningShare P (us ++ (a +ℤ b) ∷ vs)) (partsFrom P W (pos 0) us) (part P B (B +ℤ a) W) (part P (B +ℤ a) (B +ℤ a +ℤ b) W) (partsFrom P W (B +ℤ a +ℤ b) vs)
+  pub part-join :
+      (a b : ℤ) (vs : List ℤ)
+      → let W = sumℤ (us ++ a ∷ b ∷ vs) in
+      let B = sumℤ us in
+      Joined (runningShare P (us ++ a ∷ b ∷ vs)) (runningShare P (us ++ (a +ℤ b) ∷ vs))
+      (partsFrom P W (pos 0) us)
+      (part P B (B +ℤ a) W)
+      (part P (B +ℤ a) (B +ℤ a +ℤ b) W)
+      (partsFrom P W (B +ℤ a +ℤ b) vs)
   unfolding partsFrom sumℤ
   part-join a b vs = record {
     apart = share-append P us (a ∷ b ∷ vs) refl;

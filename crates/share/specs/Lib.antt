@@ -1,5 +1,5 @@
 -- `Running` is the running share of paper 01, `Answer` what the exported share answers, `OnePart` and `Laws` what holds of every part
--- and of every running share.
+-- and of every running share, `Cases` numbers worked out by hand.
 pub mod Running
 pub mod Answer
 pub mod OnePart

@@ -1,6 +1,6 @@
 -- Laws of one part, the share of an amount P of either sign between two weight sums: what it makes with its neighbour, how near the
 -- exact share it is, its sign and its size.
-use Prim.Native.Nat.{ℕ, zero, suc, _+_, _*_, _≤_, _<_}
+use Prim.Native.Nat.{ℕ, zero, suc, _*_, _≤_, _<_}
 use native.Mathlib.Omega.{arith}
 use native.Mathlib.Nat.{mul-le-mul-left}
 use mathlib.Core.Path.{_≡_, sym, ap}

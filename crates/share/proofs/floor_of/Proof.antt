@@ -4,11 +4,11 @@ use native.Mathlib.Omega.{arith}
 use native.Mathlib.Nat.{mul-le-mul-left, le-of-mul-le-mul-right, le-trans, le-add-left, le-add-right, div-add-mod', mod-lt, pos-of-ne-zero}
 use mathlib.Core.Path.{_≡_, ap, _∙_}
 use borrow.Author.Needs.{needs}
-use lib.IntN.{ℤ, pos, natAbs, _-ℤ_, _*ℤ_}
+use lib.IntN.{ℤ, pos, natAbs, _+ℤ_, _-ℤ_, _*ℤ_}
 use mir.Syntax.{w64}
 use mir.Val.{SFits, toZ}
 use mir.Facts.{toZ-ofZ, toZ-pos}
-use Rattle.ints.specs.Bridge.{up, dn, abs-is, za, sub#, mul#, one#}
+use Rattle.ints.specs.Bridge.{up, dn, abs, abs-is, za, add#, sub#, mul#, one#}
 use Rattle.ints.specs.Floor.{floor, floor-out, floor-eq}
 use Rattle.ints.specs.Words.{back, back#}
 use Rattle.wide.specs.declared.Divided.{Divided}
@@ -79,8 +79,12 @@ quot-small c = le-trans (known c .quot-le) (le-trans (le-add-left _ _) (c .befor
 minus : (q : ℕ) → q ≤ 100000000000000000 → SFits w64 (pos 0 -ℤ pos q)
 minus q h = omega (za, sub# (pos 0) (pos q))
 
+-- one step away: which step the code takes is for `broken` to judge
+minus-step : (q : ℕ) (d : ℤ) → q ≤ 100000000000000000 → abs d ≤ 1 → SFits w64 (pos 0 -ℤ pos q +ℤ d)
+minus-step q d h l = omega (za, sub# (pos 0) (pos q), add# (pos 0 -ℤ pos q) d)
+
 minus-one : (q : ℕ) → q ≤ 100000000000000000 → SFits w64 (pos 0 -ℤ pos q -ℤ pos 1)
-minus-one q h = omega (za, sub# (pos 0) (pos q), sub# (pos 0 -ℤ pos q) (pos 1))
+minus-one q h = minus-step q _ h (omega arith)
 
 word : (q : ℕ) → q ≤ 100000000000000000 → toZ w64 q ≡ pos q
 word q h = toZ-pos w64 {n = q} (omega arith)
@@ -120,7 +124,7 @@ sub-result-2 c =
 sub-result-3 : tie.Need-sub-result-3
 sub-result-3 c =
     let l = quot-small (c .before .before .before) in
-    simp (word _ l, toZ-ofZ, minus _ l) (minus-one _ l)
+    simp (word _ l, toZ-ofZ, minus _ l) (minus-step _ _ l (omega arith))
 
 returns-2 : tie.Need-returns-2
 returns-2 c =
