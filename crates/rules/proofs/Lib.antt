@@ -6,3 +6,7 @@ pub mod Passed
 pub mod Sizes
 pub mod Entries
 pub mod Near
+pub mod Slice
+pub mod Steps
+pub mod Follow
+pub mod Demand
