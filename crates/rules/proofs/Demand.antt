@@ -3,23 +3,26 @@
 -- list meets `Demand3`. Assumes nothing else.
 use Prim.Native.Nat.{ℕ}
 use mathlib.Core.Path.{_≡_, refl, sym, ap, _∙_}
-use mathlib.Core.List.{List, _++_, map}
+use mathlib.Core.List.{List, _++_}
 use lib.IntN.{ℤ, pos, _+ℤ_, +ℤ-idr}
-use lib.ListN.{length, drop, getD, replicate, length-replicate, getD-replicate}
+use lib.ListN.{length, drop, replicate, length-replicate, getD-replicate}
 use Rattle.rules.specs.declared.Ledger.{Ledger}
-use Rattle.rules.specs.declared.Answer.{Answer}
 use Rattle.rules.specs.declared.Answer.the-variants.{Accepted}
 use Rattle.rules.specs.declared.Outcome.{Outcome}
 use Rattle.rules.specs.Verdict.{Verdict, accepted}
 use Rattle.rules.specs.Refusals.{openingRefusal}
 use Rattle.rules.specs.Calls.{verdictOf, ifAccepted, emptyLedger, Opens}
 use Rattle.rules.specs.Tally.{opened}
-use Rattle.rules.specs.Demand.{Call, Chain, AllPromised, fed, billedToUser, Demand3}
+use Rattle.rules.specs.Demand.{Call, Chain, AllPromised, billedToUser, Demand3}
 use Rattle.rules.proofs.Steps.{Agree}
 use Rattle.rules.proofs.Follow.{Follows, follows}
 
 -- an accepted opening leaves what the tally starts from
-opening : (users agents : ℕ) (held : List ℤ) (r : Outcome) (held′ : List ℤ) → Opens users agents held r held′ → r .answer ≡ Accepted → Agree users agents (opened users agents) (r .ledger) held′ (drop users held)
+opening :
+    (users agents : ℕ) (held : List ℤ) (r : Outcome) (held′ : List ℤ)
+    → Opens users agents held r held′
+    → r .answer ≡ Accepted
+    → Agree users agents (opened users agents) (r .ledger) held′ (drop users held)
 opening users agents held r held′ o e =
     let v : openingRefusal users agents (length held) ≡ accepted = sym (o .verdict) ∙ ap verdictOf e in
     let new : Ledger = record { users = users; agents = agents; month = pos 0 } in

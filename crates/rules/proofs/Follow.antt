@@ -1,7 +1,7 @@
 -- A list of closings beside the tally, from any state on which they agree, by induction over the list.
-use Prim.Native.Nat.{ℕ, suc, _+_, _<_}
+use Prim.Native.Nat.{ℕ, suc, _<_}
 use mathlib.Core.Path.{_≡_, refl, sym, ap, ap₂, _∙_, subst}
-use mathlib.Core.List.{List, [], _∷_, _++_, map}
+use mathlib.Core.List.{List, [], _∷_, map}
 use lib.IntN.{ℤ, pos, _+ℤ_}
 use lib.ListN.{getD}
 use Rattle.ints.specs.Bridge.{za, add#}
@@ -28,7 +28,11 @@ pub record Follows (users agents : ℕ) (s : State) (g : Ledger) (held rest : Li
   pub near : AllNear s cs
 
 -- one month's balance, then that of the months after it
-joined : (x y b a before between behind : ℤ) → x +ℤ before ≡ y +ℤ between → b +ℤ between ≡ a +ℤ behind → x +ℤ b +ℤ before ≡ y +ℤ a +ℤ behind
+joined :
+    (x y b a before between behind : ℤ)
+    → x +ℤ before ≡ y +ℤ between
+    → b +ℤ between ≡ a +ℤ behind
+    → x +ℤ b +ℤ before ≡ y +ℤ a +ℤ behind
 joined x y b a before between behind e f =
     omega (
       za,

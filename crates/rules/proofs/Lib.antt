@@ -1,5 +1,10 @@
--- What follows from the definitions of specs/. `Tests` takes a list of tests apart; `Fits` is a line with every value in its range;
--- `Passed` is what an accepted month has passed; `Sizes` and `Entries` are the lengths and the entries of the lists of amounts.
+-- What follows from the definitions of specs/, up to demand 3.
+--
+-- An accepted month: `Tests` takes a list of tests apart; `Fits` is a line with every value in its range; `Passed` is all that an
+-- accepted month has passed; `Sizes` and `Entries` are the lengths and the entries of its lists of amounts.
+-- Its table: `Near` is the one cent; `Slice` reads a table in the slice that it stands in.
+-- Demand 3: `Steps` holds one closing to one step of the tally, `Follow` a list of them, and `Demand` states the theorem.
+-- `Promise` proves a call's promise by cases, and `Some` that promised lists of calls exist.
 pub mod Tests
 pub mod Fits
 pub mod Passed
@@ -10,3 +15,5 @@ pub mod Slice
 pub mod Steps
 pub mod Follow
 pub mod Demand
+pub mod Promise
+pub mod Some

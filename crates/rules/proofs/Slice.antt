@@ -1,6 +1,6 @@
 -- A table that stands at the front of a cells slice, read in the slice itself: its rows, its columns and its cells.
 use Prim.Native.Nat.{ℕ, suc, _+_, _*_, _<_}
-use mathlib.Core.Path.{_≡_, sym, ap, _∙_, subst}
+use mathlib.Core.Path.{_≡_, sym, _∙_, subst}
 use mathlib.Core.List.{List}
 use native.Mathlib.Omega.{arith}
 use native.Mathlib.Nat.{mul-le-mul-right, le-of-suc-le-suc}
@@ -18,7 +18,10 @@ pub record Stands (users agents : ℕ) (vc vd cells : List ℤ) : Type 0 where
   pub row : (i : ℕ) → i < suc agents → Σ< users (λ j. cellAt users cells i j) ≡ getD vc i (pos 0)
   pub column : (j : ℕ) → j < users → Σ< (suc agents) (λ i. cellAt users cells i j) ≡ getD vd j (pos 0)
   pub near :
-      (i j : ℕ) → i < suc agents → j < users → pos (abs (cellAt users cells i j *ℤ sumℤ vd -ℤ getD vc i (pos 0) *ℤ getD vd j (pos 0))) <ℤ sumℤ vd
+      (i j : ℕ)
+      → i < suc agents
+      → j < users
+      → pos (abs (cellAt users cells i j *ℤ sumℤ vd -ℤ getD vc i (pos 0) *ℤ getD vd j (pos 0))) <ℤ sumℤ vd
 
 -- a cell of the table lies among the entries that it needs
 pub cell-in : (users agents i j : ℕ) → i < suc agents → j < users → i * users + j < cellsNeeded users agents
@@ -29,7 +32,12 @@ module _ (users agents : ℕ) (vc vd cells : List ℤ) where
   same-cell i j p q = getD-take (cellsNeeded users agents) cells (i * users + j) (pos 0) (cell-in users agents i j p q)
 
   -- the table's own counts are the lists' lengths
-  sized : length vc ≡ suc agents → length vd ≡ users → Table vc vd (take (cellsNeeded users agents) cells) → pos 0 <ℤ sumℤ vd → Stands users agents vc vd (take (cellsNeeded users agents) cells)
+  sized :
+      length vc ≡ suc agents
+      → length vd ≡ users
+      → Table vc vd (take (cellsNeeded users agents) cells)
+      → pos 0 <ℤ sumℤ vd
+      → Stands users agents vc vd (take (cellsNeeded users agents) cells)
   sized e f t h =
       let new = take (cellsNeeded users agents) cells in
       record {
@@ -42,7 +50,12 @@ module _ (users agents : ℕ) (vc vd cells : List ℤ) where
             (one-cent vc vd new t h i j (omega arith) (omega arith));
       }
 
-  pub stands : length vc ≡ suc agents → length vd ≡ users → Table vc vd (take (cellsNeeded users agents) cells) → pos 0 <ℤ sumℤ vd → Stands users agents vc vd cells
+  pub stands :
+      length vc ≡ suc agents
+      → length vd ≡ users
+      → Table vc vd (take (cellsNeeded users agents) cells)
+      → pos 0 <ℤ sumℤ vd
+      → Stands users agents vc vd cells
   stands e f t h =
       let s = sized e f t h in
       record {

@@ -1,5 +1,5 @@
 -- One closing beside one step of the tally: they answer alike and stay alike, and the billed cells are the tally's amounts.
-use Prim.Native.Nat.{ℕ, suc, _+_, _<_}
+use Prim.Native.Nat.{ℕ, suc, _<_}
 use mathlib.Core.Path.{_≡_, refl, sym, ap, _∙_, subst}
 use mathlib.Core.List.{List, _++_}
 use native.Mathlib.Omega.{arith}
@@ -7,15 +7,14 @@ use lib.IntN.{ℤ, pos, _+ℤ_, _-ℤ_}
 use lib.ListN.{length, take, drop, getD}
 use lib.Seq.{take-at, drop-at}
 use Rattle.ints.specs.Bridge.{za, add#, sub#}
-use Rattle.ints.specs.Sums.{sumℤ, Σ<}
+use Rattle.ints.specs.Sums.{Σ<}
 use Rattle.rules.specs.declared.Ledger.{Ledger}
 use Rattle.rules.specs.Verdict.{Verdict, accepted, refused}
-use Rattle.rules.specs.Lines.{Lines}
 use Rattle.rules.specs.Charges.{VMEs, CPVs, VDs, newCredits}
 use Rattle.rules.specs.Credits.{VCs}
-use Rattle.rules.specs.Table.{cellAt, Table}
-use Rattle.rules.specs.Refusals.{State, cellsNeeded, refusal}
-use Rattle.rules.specs.Calls.{verdictOf, ifAccepted, stateOf, lengthsOf, Billed, Closes}
+use Rattle.rules.specs.Table.{cellAt}
+use Rattle.rules.specs.Refusals.{State}
+use Rattle.rules.specs.Calls.{verdictOf, ifAccepted, stateOf, Billed}
 use Rattle.rules.specs.Tally.{judged, moved, counted, chargesLessCompensation, payeeCredit}
 use Rattle.rules.specs.Demand.{Call, Promised, fed, NearCells, WhereAccepted}
 use Rattle.rules.proofs.Passed.{Passed, passed}
@@ -129,7 +128,11 @@ module _ (users agents : ℕ) (s : State) (c : Call) (rest : List ℤ) (a : Agre
         near = record { near = t .near };
       }
 
-pub step : (users agents : ℕ) (s : State) (c : Call) (rest : List ℤ) → Agree users agents s (c .ledger) (c .held) rest → Promised c → Step (judged s (fed c)) users agents s c rest
+pub step :
+    (users agents : ℕ) (s : State) (c : Call) (rest : List ℤ)
+    → Agree users agents s (c .ledger) (c .held) rest
+    → Promised c
+    → Step (judged s (fed c)) users agents s c rest
 step users agents s c rest a p = go (judged s (fed c)) refl (kept users agents s c rest a p)
   where
     go : (v : Verdict) → judged s (fed c) ≡ v → Kept v s c rest → Step v users agents s c rest
