@@ -4,7 +4,7 @@
 -- accepted month has passed; `Sizes` and `Entries` are the lengths and the entries of its lists of amounts.
 -- Its table: `Near` is the one cent; `Slice` reads a table in the slice that it stands in.
 -- Demand 3: `Steps` holds one closing to one step of the tally, `Follow` a list of them, and `Demand` states the theorem.
--- `Promise` proves a call's promise by cases, and `Some` that promised lists of calls exist.
+-- It is not empty: `Promise` proves a call's promise by cases, `Some` that promised lists of calls exist, and `Worked` is one.
 pub mod Tests
 pub mod Fits
 pub mod Passed
@@ -17,3 +17,4 @@ pub mod Follow
 pub mod Demand
 pub mod Promise
 pub mod Some
+pub mod Worked
