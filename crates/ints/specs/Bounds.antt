@@ -12,7 +12,7 @@ use lib.Signed.{_≤ℤ_}
 use mir.Syntax.{w64}
 use mir.Val.{SFits}
 use Rattle.ints.specs.Bridge.{up, dn, abs, za, add#, sub#, mul#, one#}
-use Rattle.ints.specs.Sums.{sumℤ, Small, small-tail, NonNeg, sum-take-nonneg, sum-take-le}
+use Rattle.ints.specs.Sums.{sumℤ, Small, small-tail, sum-end, NonNeg, sum-nonneg, sum-take-nonneg, sum-take-le}
 use Rattle.ints.specs.Floor.{floor, floor-is, floor-in}
 
 -- −below ≤ x ≤ above, and x fits 64 bits
@@ -58,6 +58,23 @@ word-mul {H} {G} {x} {y} v w t =
     (omega (arith, ap (λ (n : ℕ). n * dn y) a, mul-le-mul (v .high) (w .high)))
     t
 
+-- of any number and one that is not negative
+pub word-scale : {L H G : ℕ} {x y : ℤ} → Word L H x → Word 0 G y → T (ltb (L * G + H * G) (2 ^ 63)) → Word (L * G) (H * G) (x *ℤ y)
+word-scale {L} {H} {G} {x} {y} v w t =
+    let b : dn y ≡ 0 = omega arith in
+    let m = mul# x y in
+    word
+    (omega (arith, ap (λ (n : ℕ). up x * n) b, mul-le-mul (v .low) (w .high)))
+    (omega (arith, ap (λ (n : ℕ). dn x * n) b, mul-le-mul (v .high) (w .high)))
+    t
+
+-- a number no larger in size than another
+pub word-within : {L H : ℕ} {x : ℤ} (K : ℕ) (y : ℤ) → abs y ≤ abs x → Word L H x → T (leb L K) → T (leb H K) → T (ltb (K + K) (2 ^ 63)) → Word K K y
+word-within {L} {H} {x} K y h w l k t =
+    let a = leb→le L K l in
+    let b = leb→le H K k in
+    word (omega (arith, one# x)) (omega (arith, one# x)) t
+
 -- of a number that is not negative, rounded down
 pub word-floor : {X : ℕ} {x : ℤ} (H w : ℕ) → Word 0 X x → T (ltb 0 w) → T (ltb X (suc H * w)) → T (ltb (0 + H) (2 ^ 63)) → Word 0 H (floor x (pos w))
 unfolding floor
@@ -88,3 +105,25 @@ word-take K n xs i s l t =
 pub word-parts : {H : ℕ} (xs : List ℤ) (i : ℕ) → NonNeg xs → Word 0 H (sumℤ xs) → T (ltb (0 + H) (2 ^ 63)) → Word 0 H (sumℤ (take i xs))
 word-parts {H} xs i n w t =
     word (omega (za, sum-take-nonneg xs i n)) (omega (za, sum-take-le xs i n, sum-take-nonneg xs i n, word-nonneg w)) t
+
+-- the sum of a list whose entries are all from 0 to K, or all at most K in size
+pub record Words (L H : ℕ) (xs : List ℤ) : Type 0 where
+  pub at : (i : ℕ) → i < length xs → Word L H (getD xs i (pos 0))
+
+pub words-nonneg : {H : ℕ} {xs : List ℤ} → Words 0 H xs → NonNeg xs
+words-nonneg w = record { at = λ i h. word-nonneg (w .at i h) }
+
+pub words-small : {K : ℕ} {xs : List ℤ} → Words K K xs → Small K xs
+words-small w = record { small = λ i h. word-abs (w .at i h) }
+
+pub word-total : (K n : ℕ) (xs : List ℤ) → Words K K xs → length xs ≤ n → T (ltb (K * n + K * n) (2 ^ 63)) → Word (K * n) (K * n) (sumℤ xs)
+word-total K n xs w l t = subst (Word (K * n) (K * n)) (sum-end xs (length xs) refl) (word-take K n xs (length xs) (words-small w) l t)
+
+pub word-sum : (K n : ℕ) (xs : List ℤ) → Words 0 K xs → length xs ≤ n → T (ltb (0 + K * n) (2 ^ 63)) → Word 0 (K * n) (sumℤ xs)
+word-sum K n xs w l t =
+    let s : Small K xs = record { small = λ i h. at-most (w .at i h) } in
+    let h : abs (sumℤ xs) ≤ K * n = subst (λ (z : ℤ). abs z ≤ K * n) (sum-end xs (length xs) refl) (le-trans (sum-any K xs (length xs) s) (mul-le-mul-left K l)) in
+    word (omega (za, sum-nonneg xs (words-nonneg w))) (omega arith) t
+  where
+    at-most : {x : ℤ} → Word 0 K x → abs x ≤ K
+    at-most v = omega arith

@@ -1,7 +1,7 @@
 -- A month and lines with every value in its range: what the tests for 3, 5, 6 and 7 tell of those that they let pass.
 use Prim.Native.Nat.{ℕ}
 use mathlib.Core.Path.{_≡_}
-use mathlib.Core.Bool.{Bool, false}
+use mathlib.Core.Bool.{false}
 use mathlib.Core.List.{List}
 use lib.IntN.{ℤ, pos, negsuc}
 use lib.ListN.{length}

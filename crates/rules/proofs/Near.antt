@@ -1,13 +1,12 @@
 -- Every cell of a table lies less than one cent from its exact value VC × VD / ΣVD: |cell × ΣVD − VC × VD| < ΣVD.
-use Prim.Native.Nat.{ℕ, _+_, _*_, _<_}
-use mathlib.Core.Path.{_≡_, sym, ap, _∙_, subst}
+use Prim.Native.Nat.{ℕ, _*_, _<_}
+use mathlib.Core.Path.{ap}
 use mathlib.Core.Logic.{_≢_}
 use mathlib.Core.List.{List}
-use native.Mathlib.Omega.{arith}
 use lib.IntN.{ℤ, pos, negsuc, _+ℤ_, _-ℤ_, _*ℤ_}
 use lib.ListN.{length, getD}
 use lib.Signed.{_<ℤ_}
-use Rattle.ints.specs.Bridge.{up, dn, abs, za, add#, sub#, mul#, one#, ne-in}
+use Rattle.ints.specs.Bridge.{abs, za, add#, sub#, mul#, one#, ne-in}
 use Rattle.ints.specs.Floor.{floor, floor-is, floor-in, Floor#}
 use Rattle.ints.specs.Sums.{sumℤ}
 use Rattle.rules.specs.Table.{Cell, rounded-down, rounded-up, cellAt, Table}
@@ -36,5 +35,13 @@ pub near-cell : (x S cell : ℤ) → pos 0 <ℤ S → Cell x S cell → pos (abs
 near-cell x (pos w) cell h c = near-above x cell w (omega za) c
 near-cell x (negsuc w) cell h c = absurd (omega za)
 
-pub one-cent : (vc vd cells : List ℤ) → Table vc vd cells → pos 0 <ℤ sumℤ vd → (i j : ℕ) → i < length vc → j < length vd → pos (abs (cellAt (length vd) cells i j *ℤ sumℤ vd -ℤ getD vc i (pos 0) *ℤ getD vd j (pos 0))) <ℤ sumℤ vd
-one-cent vc vd cells t h i j p q = near-cell (getD vc i (pos 0) *ℤ getD vd j (pos 0)) (sumℤ vd) (cellAt (length vd) cells i j) h (t .cell i j p q)
+pub one-cent :
+    (vc vd cells : List ℤ)
+    → Table vc vd cells
+    → pos 0 <ℤ sumℤ vd
+    → (i j : ℕ)
+    → i < length vc
+    → j < length vd
+    → pos (abs (cellAt (length vd) cells i j *ℤ sumℤ vd -ℤ getD vc i (pos 0) *ℤ getD vd j (pos 0))) <ℤ sumℤ vd
+one-cent vc vd cells t h i j p q =
+    near-cell (getD vc i (pos 0) *ℤ getD vd j (pos 0)) (sumℤ vd) (cellAt (length vd) cells i j) h (t .cell i j p q)

@@ -97,7 +97,10 @@ counts s l e =
       last-month = λ z. possible _ (and-false _ _ (e₅ .1) (not-equal _ _ z));
     }
 
-slices : (s : State) (n : Lengths) → shortSlices s n ≡ accepted → (s .users ≤ n .held) × (cellsNeeded (s .users) (s .agents) ≤ n .cells) × (workNeeded (s .users) (s .agents) ≤ n .work)
+slices :
+    (s : State) (n : Lengths)
+    → shortSlices s n ≡ accepted
+    → (s .users ≤ n .held) × (cellsNeeded (s .users) (s .agents) ≤ n .cells) × (workNeeded (s .users) (s .agents) ≤ n .work)
 unfolding shortSlices
 slices s n e =
     let a = when-then _ 2 1 _ e in
@@ -127,8 +130,12 @@ lines-passed l e =
       point = λ k h. point-passed (l .users) (suc k) _ (each-from-1 (pointTest (l .users)) (l .points) (pointOf []) (c .1) k h);
     }
 
-sums : (credits : List ℤ) (l : Lines) → sumTests credits l ≡ accepted
-    → (sumℤ (map (λ (a : Agent). a .pb) (l .agents)) ≢ pos 0) × (pos 0 <ℤ pvTotal l → sumℤ (EUSTs l) ≢ pos 0) × (sumℤ (VDs credits l) ≢ pos 0)
+sums :
+    (credits : List ℤ) (l : Lines)
+    → sumTests credits l ≡ accepted
+    → (sumℤ (map (λ (a : Agent). a .pb) (l .agents)) ≢ pos 0)
+    × (pos 0 <ℤ pvTotal l → sumℤ (EUSTs l) ≢ pos 0)
+    × (sumℤ (VDs credits l) ≢ pos 0)
 unfolding sumTests
 sums credits l e =
     let a = when-then _ 8 0 _ e in

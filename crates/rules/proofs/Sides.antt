@@ -8,6 +8,7 @@ use lib.ListN.{length, getD, replicate}
 use lib.IntN.{ℤ, pos, _+ℤ_}
 use lib.Signed.{_≤ℤ_, _<ℤ_}
 use Rattle.ints.specs.Bridge.{za, add#}
+use Rattle.ints.specs.Order.{add-mono}
 use Rattle.ints.specs.Ring.{all4, diff}
 use Rattle.ints.specs.Sums.{sumℤ, NonNeg, nonneg-head, nonneg-tail, sum-nonneg}
 use Rattle.rules.specs.Lists.{eachFrom, sideBySide}
@@ -45,3 +46,12 @@ pub same-each : {A B : Type 0} (k : ℕ) (f g : ℕ → A → B) (xs : List A) �
 unfolding eachFrom
 same-each k f g [] h = refl
 same-each k f g (x ∷ xs) h = ap₂ _∷_ (h k x) (same-each (suc k) f g xs h)
+
+-- lines none of which is above the other's
+pub sum-le : (xs ys : List ℤ) → length xs ≡ length ys → ((i : ℕ) → i < length xs → getD xs i (pos 0) ≤ℤ getD ys i (pos 0)) → sumℤ xs ≤ℤ sumℤ ys
+unfolding sumℤ
+sum-le [] [] e h = omega za
+sum-le [] (y ∷ ys) e h = absurd (omega arith)
+sum-le (x ∷ xs) [] e h = absurd (omega arith)
+sum-le (x ∷ xs) (y ∷ ys) e h =
+    add-mono (h 0 (suc-le-suc zero-le)) (sum-le xs ys (omega arith) (λ i k. h (suc i) (suc-le-suc k)))

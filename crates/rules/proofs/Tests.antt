@@ -30,7 +30,12 @@ and-false true b e h = e
 and-false false b e h = absurd (true≢false (sym h))
 
 -- each line passes its own test, whose position is counted from k; and the other way round
-pub each-accepted : {A : Type 0} (test : ℕ → A → Verdict) (k : ℕ) (xs : List A) (d : A) → eachLine test k xs ≡ accepted → (i : ℕ) → i < length xs → test (k + i) (getD xs i d) ≡ accepted
+pub each-accepted :
+    {A : Type 0} (test : ℕ → A → Verdict) (k : ℕ) (xs : List A) (d : A)
+    → eachLine test k xs ≡ accepted
+    → (i : ℕ)
+    → i < length xs
+    → test (k + i) (getD xs i d) ≡ accepted
 unfolding eachLine
 each-accepted test k [] d e i h = absurd (not-suc-le-zero h)
 each-accepted test k (x ∷ xs) d e zero h = ap (λ (n : ℕ). test n x) (omega arith) ∙ then-accepted (test k x) _ e .0
@@ -38,7 +43,10 @@ each-accepted test k (x ∷ xs) d e (suc i) h =
     ap (λ (n : ℕ). test n (getD xs i d)) (omega arith)
     ∙ each-accepted test (suc k) xs d (then-accepted (test k x) _ e .1) i (le-of-suc-le-suc h)
 
-pub each-accepts : {A : Type 0} (test : ℕ → A → Verdict) (k : ℕ) (xs : List A) (d : A) → ((i : ℕ) → i < length xs → test (k + i) (getD xs i d) ≡ accepted) → eachLine test k xs ≡ accepted
+pub each-accepts :
+    {A : Type 0} (test : ℕ → A → Verdict) (k : ℕ) (xs : List A) (d : A)
+    → ((i : ℕ) → i < length xs → test (k + i) (getD xs i d) ≡ accepted)
+    → eachLine test k xs ≡ accepted
 unfolding eachLine
 each-accepts test k [] d h = refl
 each-accepts test k (x ∷ xs) d h =
@@ -47,5 +55,10 @@ each-accepts test k (x ∷ xs) d h =
     ∙ each-accepts test (suc k) xs d (λ i l. ap (λ (n : ℕ). test n (getD xs i d)) (omega arith) ∙ h (suc i) (suc-le-suc l))
 
 -- positions from 1, as the lines of a month are counted
-pub each-from-1 : {A : Type 0} (test : ℕ → A → Verdict) (xs : List A) (d : A) → eachLine test 1 xs ≡ accepted → (i : ℕ) → i < length xs → test (suc i) (getD xs i d) ≡ accepted
+pub each-from-1 :
+    {A : Type 0} (test : ℕ → A → Verdict) (xs : List A) (d : A)
+    → eachLine test 1 xs ≡ accepted
+    → (i : ℕ)
+    → i < length xs
+    → test (suc i) (getD xs i d) ≡ accepted
 each-from-1 test xs d e i h = ap (λ (n : ℕ). test n (getD xs i d)) (omega arith) ∙ each-accepted test 1 xs d e i h
