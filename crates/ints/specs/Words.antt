@@ -5,15 +5,15 @@ use Prim.Native.Nat.{ℕ, suc, _/_, _%_, _≤_, _<_, _^_}
 use native.Mathlib.Omega.{arith}
 use borrow.Author.Tests.{eq-eqb, ne-eqb}
 use lib.Dec.{T, eqb, ltb}
-use lib.IntN.{ℤ, pos, negsuc, natAbs}
-use lib.Signed.{quotZ, remZ, _≤ℤ_, _<ℤ_}
+use lib.IntN.{ℤ, pos, negsuc, natAbs, _-ℤ_}
+use lib.Signed.{nonNeg, quotZ, remZ, _≤ℤ_, _<ℤ_}
 use native.Mathlib.Nat.{div-le-self, mod-le}
 use mir.Syntax.{w64}
-use mir.Val.{SFits, toZ, ofZ}
+use mir.Val.{SFits, Fits, toZ, ofZ}
 use mir.Facts.{toZ-ofZ, toZ-pos, sfits-lit}
-use Rattle.ints.specs.Bridge.{up, dn, abs, za, neg#}
+use Rattle.ints.specs.Bridge.{up, dn, abs, abs-is, za, neg#, sub#, one#}
 use Rattle.ints.specs.Floor.{floor}
-use Rattle.ints.specs.Range.{eqZ, eqZ-true, eqZ-false}
+use Rattle.ints.specs.Range.{eqZ, eqZ-true, eqZ-false, outside, outside-false}
 
 -- what stands in a need for an operand x
 abbrev pub back : ℤ → ℤ
@@ -69,3 +69,17 @@ pub quot-floor : (x : ℤ) (w : ℕ) → pos 0 ≤ℤ x → quotZ x (pos w) ≡ 
 unfolding floor
 quot-floor (pos a) w h = refl
 quot-floor (negsuc a) w h = absurd (omega za)
+
+-- a position counted from 1, less 1, as an index of n entries
+pub record Index (n : ℕ) (u : ℤ) : Type 0 where
+  pub at : natAbs (u -ℤ pos 1) < n
+  pub fits : SFits w64 (u -ℤ pos 1)
+  pub cast : T (nonNeg (u -ℤ pos 1)) × Fits w64 (natAbs (u -ℤ pos 1))
+
+pub index : (n : ℕ) (u : ℤ) → n < 2 ^ 63 → outside (pos 1) (pos n) u ≡ false → Index n u
+index n u h e =
+    let w = outside-false (pos 1) (pos n) u e in
+    let d = sub# u (pos 1) in
+    let a = abs-is (u -ℤ pos 1) in
+    let o = one# (u -ℤ pos 1) in
+    record { at = omega za; fits = omega za; cast = omega za }
