@@ -8,6 +8,7 @@
 -- Guards, which a wrong definition would break: `Totals`, `Blind` (what an amount does not look at), `Cycle`, `Examples` of refusals;
 -- `Sides` has the sums that they need.
 -- What code relies on: `Bounds` of every amount in an accepted month, from `BoundsPoint`, `PerUser`, `BoundsCharges`, `BoundsCredits`.
+-- `Balanced` has the totals of every accepted month.
 pub mod Tests
 pub mod Fits
 pub mod Passed
@@ -32,3 +33,4 @@ pub mod PerUser
 pub mod BoundsCharges
 pub mod BoundsCredits
 pub mod Bounds
+pub mod Balanced
