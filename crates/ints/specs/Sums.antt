@@ -117,6 +117,12 @@ sum-take-le xs zero h = ≤-trans (≡→≤ (sum-start xs)) (sum-nonneg xs h)
 sum-take-le [] (suc i) h = ≤-refl (pos 0)
 sum-take-le (x ∷ xs) (suc i) h = add-mono (≤-refl x) (sum-take-le xs i (nonneg-tail h))
 
+-- one entry is no more than the whole
+pub entry-le-sum : (xs : List ℤ) (i : ℕ) → NonNeg xs → i < length xs → getD xs i (pos 0) ≤ℤ sumℤ xs
+entry-le-sum xs i h l =
+    let m = sum-more xs i (pos 0) l in
+    omega (za, sum-take-nonneg xs i h, sum-take-le xs (i + 1) h, m, add# (sumℤ (take i xs)) (getD xs i (pos 0)))
+
 -- a store
 pub sum-set : (xs : List ℤ) (i : ℕ) (v d : ℤ) → i < length xs → sumℤ (set xs i v) ≡ sumℤ xs +ℤ (v -ℤ getD xs i d)
 unfolding sumℤ

@@ -39,6 +39,10 @@ EUST-as-contracted vp vf [] k = refl
 EUST-as-contracted vp vf (p ∷ ps) k =
     ap₂ (λ (x y : ℤ). cond (eqZ (p .user) (pos k)) x (pos 0) +ℤ y) (use-as-contracted (vp p) (vf p) p) (EUST-as-contracted vp vf ps k)
 
+pub EUSTs-as-contracted : (vp vf : Point → ℤ) (l : Lines) → EUSTs (measuredAs vp vf l) ≡ EUSTs l
+unfolding EUSTs
+EUSTs-as-contracted vp vf l = same-each 1 _ _ (l .users) (λ k u. EUST-as-contracted vp vf (l .points) k)
+
 pub CPV-as-contracted : (vp vf : Point → ℤ) (l : Lines) → CPVs (measuredAs vp vf l) ≡ CPVs l
-unfolding CPVs EUSTs pvTotal
-CPV-as-contracted vp vf l = rw (same-each 1 (λ k u. EUST (measuredAs vp vf l .points) k) (λ k u. EUST (l .points) k) (l .users) (λ k u. EUST-as-contracted vp vf (l .points) k))
+unfolding CPVs pvTotal
+CPV-as-contracted vp vf l = rw (EUSTs-as-contracted vp vf l)

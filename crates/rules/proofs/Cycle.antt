@@ -4,7 +4,7 @@ use Prim.Native.Nat.{ℕ, zero, suc, _+_, _*_, _-_, _≤_, _<_}
 use native.Mathlib.Omega.{arith}
 use mathlib.Core.Path.{_≡_, refl, sym, ap, _∙_, subst}
 use mathlib.Core.Logic.{_≢_}
-use mathlib.Core.Bool.{Bool, true, false, cond, not, _||_}
+use mathlib.Core.Bool.{Bool, true, false, cond, not}
 use mathlib.Core.List.{List, [], _∷_}
 use borrow.Author.Tests.{ne-eqb}
 use lib.Dec.{T, eqb}
@@ -14,10 +14,10 @@ use lib.Signed.{ltZ}
 use Rattle.ints.specs.Bridge.{za, up, dn, add#, sub#, mul#, one#}
 use Rattle.ints.specs.Computed.{below, below-at, below-both}
 use Rattle.ints.specs.Floor.{floor, Floor#, floor-is, floor-in}
-use Rattle.ints.specs.Range.{Within, eqZ, eqZ-true}
+use Rattle.ints.specs.Range.{Within, outside, eqZ, eqZ-true}
 use Rattle.ints.specs.Sums.{Σ<, Σ-ext}
 use Rattle.share.specs.OnePart.{floor-none, floor-whole}
-use Rattle.rules.specs.Calendar.{monthOfYear, cycleMonth}
+use Rattle.rules.specs.Calendar.{monthOfYear, impossibleMonth, cycleMonth}
 use Rattle.rules.specs.Lines.{Agent}
 use Rattle.rules.specs.Credits.{VMPA}
 use Rattle.rules.proofs.Fits.{Possible}
@@ -116,7 +116,25 @@ VMPA-year y low high a =
     Σ-ext 12 (λ k. VMPA (cycleMonth (getD (cycleFrom y) k (pos 0))) a) (λ k. VMPA (pos (suc k)) a) (λ k h. ap (λ (c : ℤ). VMPA c a) (cycle-months y low high k h))
     ∙ VMPA-total a
 
--- ---- every possible month is a month of this calendar, and has a cycle month from 1 to 12
+-- ---- these months are possible, and every possible month is one of them, and has a cycle month from 1 to 12
+there : ℕ → ℕ → Bool
+there y m = not (impossibleMonth (yyyymm (2000 + y) (m + 1)))
+
+all-there : T (below (λ y. below (there y) 12) 100)
+unfolding there impossibleMonth monthOfYear outside floor
+all-there = tt
+
+pub calendar-possible : (y m : ℕ) → 2000 ≤ y → y < 2100 → m < 12 → impossibleMonth (yyyymm y (m + 1)) ≡ false
+unfolding there
+calendar-possible y m low high h = subst (λ (y : ℕ). impossibleMonth (yyyymm y (m + 1)) ≡ false) (omega arith) (go (y - 2000) (omega arith))
+  where
+    is-false : (t : Bool) → T (not t) → t ≡ false
+    is-false false u = refl
+    is-false true u = absurd u
+
+    go : (y : ℕ) → y < 100 → impossibleMonth (yyyymm (2000 + y) (m + 1)) ≡ false
+    go y k = is-false _ (below-both there 100 12 all-there y m k h)
+
 pub record Dated (m : ℤ) : Type 0 where
   pub year : ℕ
   pub mm : ℕ

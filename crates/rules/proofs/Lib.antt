@@ -8,6 +8,7 @@
 -- Guards, which a wrong definition would break: `Totals`, `Blind` (what an amount does not look at), `Cycle`, `Examples` of refusals;
 -- `Sides` has the sums that they need.
 -- What code relies on: `Bounds` of every amount in an accepted month, from `BoundsPoint`, `PerUser`, `BoundsCharges`, `BoundsCredits`.
+-- `Balanced` has the totals of every accepted month.
 pub mod Tests
 pub mod Fits
 pub mod Passed
@@ -27,8 +28,12 @@ pub mod Totals
 pub mod Blind
 pub mod Cycle
 pub mod Examples
+pub mod Ranged
 pub mod BoundsPoint
+pub mod BoundsAgent
 pub mod PerUser
+pub mod BoundsSums
 pub mod BoundsCharges
 pub mod BoundsCredits
 pub mod Bounds
+pub mod Balanced
