@@ -7,8 +7,9 @@
 -- It is not empty: `Promise` proves a call's promise by cases, `Some` that promised lists of calls exist, and `Worked` is one.
 -- Guards, which a wrong definition would break: `Totals`, `Blind` (what an amount does not look at), `Cycle`, `Examples` of refusals;
 -- `Sides` has the sums that they need.
--- What code relies on: `Bounds` of every amount in an accepted month, from `BoundsPoint`, `PerUser`, `BoundsCharges`, `BoundsCredits`.
--- `Balanced` has the totals of every accepted month.
+-- What code relies on: `Bounds` of every amount. `Ranged` is what tests 1 to 7 give; on it stand, by the tests that each needs besides,
+-- `BoundsSums` (none; from `BoundsPoint`, `BoundsAgent` and `PerUser`), `BoundsCharges` (9), `BoundsCredits` (8, 9), the cells (10).
+-- `MonthTotals` has the totals of every accepted month.
 pub mod Tests
 pub mod Fits
 pub mod Passed
@@ -36,4 +37,4 @@ pub mod BoundsSums
 pub mod BoundsCharges
 pub mod BoundsCredits
 pub mod Bounds
-pub mod Balanced
+pub mod MonthTotals
