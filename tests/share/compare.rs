@@ -119,6 +119,11 @@ fn edges() -> Vec<i64> {
 
 // ---- comparison
 
+fn differs(x: [i64; 4], got: i64, wanted: i64) -> ! {
+    println!("DIFFERENT: share({}, {}, {}, {}) is {}, wanted {}", x[0], x[1], x[2], x[3], got, wanted);
+    std::process::exit(1);
+}
+
 // how many inputs, by which of the three tests they fail and, where none, by the part's sign
 #[derive(Default)]
 struct Counts {
@@ -132,8 +137,7 @@ impl Counts {
         let [p, before, through, w] = x;
         let (got, wanted) = (ours(p, before, through, w), peer(p, before, through, w));
         if got != wanted {
-            println!("DIFFERENT: share({}, {}, {}, {}) is {}, and by 128 bits {}", p, before, through, w, got, wanted);
-            std::process::exit(1);
+            differs(x, got, wanted);
         }
         let f = faults(x);
         let class = f[0] as usize + 2 * f[1] as usize + 4 * f[2] as usize;
@@ -155,11 +159,12 @@ impl Counts {
     }
 
     fn print(&self, name: &str) {
-        let f = self.faulty;
-        println!(
-            "{:<28} {:>9} inputs: parts below 0 {}, 0 {}, above 0 {}; refused for P {}, W {}, sums {}, P W {}, P sums {}, W sums {}, all {}",
-            name, self.inputs, self.signs[0], self.signs[1], self.signs[2], f[1], f[2], f[4], f[3], f[5], f[6], f[7]
-        );
+        let (s, f) = (self.signs, self.faulty);
+        print!("{:<22}", name);
+        for n in [self.inputs, s[0], s[1], s[2], f[1], f[2], f[4], f[3], f[5], f[6], f[7]] {
+            print!("{:>9}", n);
+        }
+        println!();
     }
 }
 
@@ -185,13 +190,19 @@ fn compare_all(path: &str) {
         all.add(&counts);
     };
 
+    println!("{:<22}{:>9}{:>27}{:>63}", "", "", "parts", "refused, by all the tests that fail");
+    print!("{:<22}", "class");
+    for name in ["inputs", "below 0", "0", "above 0", "P", "W", "sums", "P W", "P sums", "W sums", "all"] {
+        print!("{:>9}", name);
+    }
+    println!();
+
     class("stored shares", &mut |c| {
         for r in stored(path) {
             let x = [r[0], r[1], r[2], r[3]];
-            let got = peer(x[0], x[1], x[2], x[3]);
+            let got = ours(x[0], x[1], x[2], x[3]);
             if got != r[4] {
-                println!("DIFFERENT: stored {:?}, by 128 bits {}", r, got);
-                std::process::exit(1);
+                differs(x, got, r[4]);
             }
             c.compare(x);
         }
@@ -277,8 +288,7 @@ fn compare_all(path: &str) {
         }
         assert!(total == p, "{} over {:?} totals {}", p, weights, total);
     }
-    println!("{:<28} {:>9} lists, each totals its amount", "lists of weights", lists);
-    println!("no differences");
+    println!("no differences; {} lists of weights, the parts of each total its amount", lists);
 }
 
 // ---- benchmark
@@ -305,7 +315,7 @@ fn bench(name: &str, inputs: &[[i64; 4]]) {
         b = b.min(pass(peer, inputs, &mut peer_sum));
     }
     assert!(ours_sum == peer_sum);
-    println!("{:<28} ours {:6.1} ns, 128 bits {:6.1} ns, ratio {:.2}", name, a, b, a / b);
+    println!("{:<22}{:>9.1}{:>9.1}{:>9.2}", name, a, b, a / b);
 }
 
 fn bench_all() {
@@ -315,6 +325,7 @@ fn bench_all() {
     let whole = set(LIMIT, LIMIT);
     let months = set(100_000_000_000, 10_000_000_000_000);
     let small = set(10_000, 10_000);
+    println!("{:<22}{:>9}{:>9}{:>9}", "ns a share", "ours", "128 bits", "ratio");
     bench("whole range", &whole);
     bench("ordinary months", &months);
     bench("small", &small);
