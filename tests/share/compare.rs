@@ -181,7 +181,7 @@ fn stored(path: &str) -> Vec<[i64; 5]> {
 }
 
 fn compare_all(path: &str) {
-    let mut random = Random(2024_07);
+    let mut random = Random(202407);
     let mut all = Counts::default();
     let mut class = |name: &str, fill: &mut dyn FnMut(&mut Counts)| {
         let mut counts = Counts::default();
@@ -247,7 +247,7 @@ fn compare_all(path: &str) {
         for _ in 0..1_000_000 {
             let top = (1u64 << 63) | (random.sized(255) as u64) << 32 | (u32::MAX as u64 - random.sized(255) as u64);
             let w = (top >> (8 + random.upto(54))) as i64 & i64::MAX;
-            let w = w.min(LIMIT).max(1);
+            let w = w.clamp(1, LIMIT);
             let through = w - random.sized(w - 1);
             c.compare([random.signed(LIMIT), random.upto(through), through, w]);
         }
@@ -319,7 +319,7 @@ fn bench(name: &str, inputs: &[[i64; 4]]) {
 }
 
 fn bench_all() {
-    let mut random = Random(2024_08);
+    let mut random = Random(202408);
     let n = 16_384;
     let mut set = |amount: i64, total: i64| -> Vec<[i64; 4]> { (0..n).map(|_| random.valid(amount, total)).collect() };
     let whole = set(LIMIT, LIMIT);
