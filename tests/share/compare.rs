@@ -1,5 +1,5 @@
 // Holds the exported share to a 128-bit calculation made from paper 01 alone, and times both on the same inputs.
-// Needs nothing but std, and compiles with rustc 1.63. Its argument is the file of stored shares.
+// Keeps to std and to what rustc 1.63 has. Its argument is the file of stored shares.
 use std::time::Instant;
 
 type Share = unsafe extern "C" fn(i64, i64, i64, i64) -> i64;
