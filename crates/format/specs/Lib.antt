@@ -1,0 +1,7 @@
+pub mod Bytes
+pub mod Blocks
+pub mod Decimal
+pub mod Grammar
+pub mod Machine
+pub mod Language
+pub mod Reading

@@ -1,0 +1,118 @@
+-- Reading one file at a position of a text (paper 01, "The month file" and "Why a month comes back", 11 and 12): the verdict by the
+-- machine, and the values. Below, what paper 01 says of the answer; proofs/Reads.antt proves it. Assumes nothing.
+use Prim.Native.Nat.{ℕ, zero, suc, _+_, _-_, _*_, min}
+use mathlib.Core.Path.{_≡_}
+use mathlib.Core.Bool.{Bool, true, false, cond, _&&_}
+use mathlib.Core.List.{List, [], _∷_, _++_}
+use lib.Dec.{eqb}
+use lib.ListN.{length, take, drop, getD}
+use lib.IntN.{ℤ, pos, negℤ}
+use Rattle.format.specs.Bytes.{minus, isDigit, startsLine}
+use Rattle.format.specs.Blocks.{Count, one, any, upTo, Block, columns, Rooms, free, slices, blocks}
+use Rattle.format.specs.Grammar.{namesText, File, fileText, Fits}
+use Rattle.format.specs.Machine.{Item, byte, lines, State, stuck, at, value, isStuck, step, final, endsBefore, start}
+use Rattle.format.specs.Language.{Begins, Place, Follows, Stands}
+use Rattle.format.specs.declared.Scanned.{Scanned}
+use Rattle.format.specs.declared.Scanned.the-variants.{Whole, Faulty, Full}
+
+-- THE VALUES, of a text that is known to be right: what was read, and what is left of the text
+pub record Got (A : Type 0) : Type 0 where
+  pub got : A
+  pub left : List ℕ
+
+-- digits, as many as there are but at most k, read on from a
+unfoldable pub readDigits : ℕ → ℕ → List ℕ → Got ℕ
+readDigits zero a t = record { got = a; left = t }
+readDigits (suc k) a [] = record { got = a; left = [] }
+readDigits (suc k) a (b ∷ t) = cond (isDigit b) (readDigits k (a * 10 + (b - 48)) t) (record { got = a; left = b ∷ t })
+
+abbrev pub signed : Bool → Got ℕ → Got ℤ
+signed true g = record { got = negℤ (pos (g .got)); left = g .left }
+signed false g = record { got = pos (g .got); left = g .left }
+
+-- a value
+unfoldable pub readValue : List ℕ → Got ℤ
+readValue [] = record { got = pos 0; left = [] }
+readValue (b ∷ t) = cond (eqb b minus) (signed true (readDigits 18 0 t)) (signed false (readDigits 18 0 (b ∷ t)))
+
+-- so many values, each with the comma or LF after it
+unfoldable pub readLine : ℕ → List ℕ → Got (List ℤ)
+readLine zero t = record { got = []; left = t }
+readLine (suc c) t =
+    let v = readValue t in
+    let r = readLine c (drop 1 (v .left)) in
+    record { got = v .got ∷ r .got; left = r .left }
+
+abbrev pub lineHere : List ℕ → Bool
+lineHere [] = false
+lineHere (b ∷ t) = startsLine b
+
+-- lines of c values while one begins, at most k
+unfoldable pub readLines : ℕ → ℕ → List ℕ → Got (List (List ℤ))
+readLines zero c t = record { got = []; left = t }
+readLines (suc k) c t =
+    let l = readLine c t in
+    let r = readLines k c (l .left) in
+    cond (lineHere t) (record { got = l .got ∷ r .got; left = r .left }) (record { got = []; left = t })
+
+-- as many lines as there is room for, and never more than bytes
+abbrev pub most : Count → List ℕ → ℕ
+most one t = 1
+most any t = length t
+most (upTo n) t = n
+
+-- each block: its names passed over, then its lines
+unfoldable pub readBlocks : List Block → List ℕ → Got (List (List (List ℤ)))
+readBlocks [] t = record { got = []; left = t }
+readBlocks (b ∷ bs) t =
+    let u = drop (length (namesText b)) t in
+    let ls = readLines (most (b .count) u) (columns b) u in
+    let r = readBlocks bs (ls .left) in
+    record { got = ls .got ∷ r .got; left = r .left }
+
+-- the values under their names
+abbrev pub fileOf : List (List (List ℤ)) → File
+fileOf w =
+    let l = getD (getD w 0 []) 0 [] in
+    record { month = getD l 0 (pos 0); ons = getD l 1 (pos 0); agents = getD w 1 []; users = getD w 2 []; points = getD w 3 [] }
+
+-- THE VERDICT: the block whose lines come next has no room for one more
+abbrev pub noRoom : List Item → Bool
+noRoom [] = false
+noRoom (byte c ∷ f) = false
+noRoom (lines one k ∷ f) = false
+noRoom (lines any k ∷ f) = false
+noRoom (lines (upTo n) k ∷ f) = eqb n 0
+
+-- a line begins that is one more than its slice takes
+abbrev pub tooMany : State → ℕ → Bool
+tooMany stuck b = false
+tooMany (at f) b = noRoom f && startsLine b
+tooMany (value p k f) b = false
+
+-- from state s, at the place k: 11 or 12, whichever byte comes first, or where the file ends
+unfoldable pub scan : State → ℕ → List ℕ → Scanned
+scan s k [] = cond (final s) (Whole k) (Faulty k)
+scan s k (b ∷ t) =
+    cond (endsBefore s b) (Whole k)
+    (cond (tooMany s b) (Full k)
+    (cond (isStuck (step s b)) (Faulty k)
+    (scan (step s b) (k + 1) t)))
+
+-- one file from a position; "a position past the end counts as the end"
+unfoldable pub scanAt : Rooms → List ℕ → ℕ → Scanned
+scanAt r t from = scan (start r) (min from (length t)) (drop from t)
+
+-- reading's answer: the file's values and the position after it, or paper 01's number and place
+pub data Answer : Type 0 where
+  accepted : File → ℕ → Answer
+  refused : ℕ → ℕ → Answer
+
+abbrev pub answer : File → Scanned → Answer
+answer f (Whole n) = accepted f n
+answer f (Faulty p) = refused 11 p
+answer f (Full p) = refused 12 p
+
+-- READING
+unfoldable pub reading : Rooms → List ℕ → ℕ → Answer
+reading r t from = answer (fileOf (readBlocks (blocks r) (drop from t) .got)) (scanAt r t from)
