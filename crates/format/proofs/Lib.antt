@@ -1,2 +1,3 @@
 pub mod Decimals
+pub mod Live
 pub mod Examples

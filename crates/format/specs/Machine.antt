@@ -2,6 +2,7 @@
 -- and the file check that goes by it. proofs/Accepts.antt proves that the machine takes exactly the files of Grammar.antt.
 -- Assumes nothing.
 use Prim.Native.Nat.{ℕ, zero, suc, _+_, _-_}
+use mathlib.Core.Path.{_≡_}
 use mathlib.Core.Bool.{Bool, true, false, cond, _&&_}
 use mathlib.Core.List.{List, [], _∷_, _++_, map}
 use lib.Dec.{leb, ltb, eqb}
@@ -100,6 +101,19 @@ start r = at (format r)
 -- one byte of a text of files on end: where a file ends before an `m`, a further file begins with it
 unfoldable pub onward : State → ℕ → State
 onward s b = cond (endsBefore s b) (step (start free) b) (step s b)
+
+-- the state after a text, byte by byte
+unfoldable pub run : (State → ℕ → State) → State → List ℕ → State
+run go s [] = s
+run go s (b ∷ t) = run go (go s b) t
+
+-- from state s the text is the rest of one file
+abbrev pub From : State → List ℕ → Type 0
+From s t = final (run step s t) ≡ true
+
+-- the machine accepts the text as files on end
+abbrev pub Accepted : List ℕ → Type 0
+Accepted t = final (run onward (start free) t) ≡ true
 
 -- a text's verdict: it passes, or it fails at a place
 pub data Verdict : Type 0 where
