@@ -1,3 +1,5 @@
 pub mod Decimals
 pub mod Live
+pub mod Laid
+pub mod Sound
 pub mod Examples
