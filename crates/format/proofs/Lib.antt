@@ -2,4 +2,5 @@ pub mod Decimals
 pub mod Live
 pub mod Laid
 pub mod Sound
+pub mod Takes
 pub mod Examples
