@@ -5,4 +5,5 @@ pub mod Sound
 pub mod Takes
 pub mod Places
 pub mod Accepts
+pub mod FileCheck
 pub mod Examples

@@ -36,7 +36,7 @@ pub sound-format : (r : Rooms) → Sound (format r)
 unfolding format more line
 sound-format r = (refl, (refl, (refl, (tt, tt))))
 
-good-cond : (t : Bool) (x y : State) → Good x → Good y → Good (cond t x y)
+pub good-cond : (t : Bool) (x y : State) → Good x → Good y → Good (cond t x y)
 good-cond true x y a b = a
 good-cond false x y a b = b
 
