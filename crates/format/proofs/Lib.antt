@@ -6,4 +6,5 @@ pub mod Takes
 pub mod Places
 pub mod Accepts
 pub mod FileCheck
+pub mod Values
 pub mod Examples

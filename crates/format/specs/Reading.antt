@@ -26,14 +26,15 @@ readDigits zero a t = record { got = a; left = t }
 readDigits (suc k) a [] = record { got = a; left = [] }
 readDigits (suc k) a (b ∷ t) = cond (isDigit b) (readDigits k (a * 10 + (b - 48)) t) (record { got = a; left = b ∷ t })
 
-abbrev pub signed : Bool → Got ℕ → Got ℤ
-signed true g = record { got = negℤ (pos (g .got)); left = g .left }
-signed false g = record { got = pos (g .got); left = g .left }
+-- a minus sign before it, or none
+abbrev pub withSign : Bool → Got ℕ → Got ℤ
+withSign true g = record { got = negℤ (pos (g .got)); left = g .left }
+withSign false g = record { got = pos (g .got); left = g .left }
 
 -- a value
 unfoldable pub readValue : List ℕ → Got ℤ
 readValue [] = record { got = pos 0; left = [] }
-readValue (b ∷ t) = cond (eqb b minus) (signed true (readDigits 18 0 t)) (signed false (readDigits 18 0 (b ∷ t)))
+readValue (b ∷ t) = cond (eqb b minus) (withSign true (readDigits 18 0 t)) (withSign false (readDigits 18 0 (b ∷ t)))
 
 -- so many values, each with the comma or LF after it
 unfoldable pub readLine : ℕ → List ℕ → Got (List ℤ)
