@@ -9,7 +9,8 @@ use Rattle.format.specs.Blocks.{slices}
 use Rattle.format.specs.Decimal.{shown}
 use Rattle.format.specs.Grammar.{more, line, linesText, blocksText, File, fileText}
 use Rattle.format.specs.Machine.{format, inValue, enter, step, onward, judge, checkOf}
-use Rattle.format.specs.Reading.{readDigits, readValue, readLine, readLines, readBlocks, scan, scanAt, Answer, accepted, refused, reading}
+use Rattle.format.specs.Values.{readDigits, readValue, readLine, readLines, readBlocks}
+use Rattle.format.specs.Reading.{scan, scanAt, Answer, accepted, refused, reading}
 
 -- "Input:" (paper 01, "The month file")
 abbrev pub input : String

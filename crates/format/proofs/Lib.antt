@@ -7,4 +7,5 @@ pub mod Places
 pub mod Accepts
 pub mod FileCheck
 pub mod Values
+pub mod Scans
 pub mod Examples

@@ -13,7 +13,7 @@ use Rattle.format.specs.Blocks.{Count, one, any, upTo, Block, columns, R
 use Rattle.format.specs.Decimal.{shown, text, Small, All}
 use Rattle.format.specs.Grammar.{more, line, namesText, lineText, linesText, blocksText, LineFits, Counted, BlocksFit, File, rows, fileText, Fits}
 use Rattle.format.specs.Language.{Follows}
-use Rattle.format.specs.Reading.{Got, readDigits, withSign, readValue, readLine, lineHere, readLines, most, readBlocks, fileOf}
+use Rattle.format.specs.Values.{Got, readDigits, withSign, readValue, readLine, lineHere, readLines, most, readBlocks, fileOf}
 use Rattle.format.proofs.Decimals.{said, numeral, read-back}
 use Rattle.format.proofs.Takes.{digit-test, line-begun}
 

@@ -4,4 +4,5 @@ pub mod Decimal
 pub mod Grammar
 pub mod Machine
 pub mod Language
+pub mod Values
 pub mod Reading

@@ -1,83 +1,22 @@
 -- Reading one file at a position of a text (paper 01, "The month file" and "Why a month comes back", 11 and 12): the verdict by the
--- machine, and the values. Below, what paper 01 says of the answer; proofs/Reads.antt proves it. Assumes nothing.
-use Prim.Native.Nat.{ℕ, zero, suc, _+_, _-_, _*_, min}
+-- machine, with the values; and below it what paper 01 says of the answer, with no machine. proofs/Reads.antt proves that the answer is
+-- so, and that nothing else is. Assumes nothing.
+use Prim.Native.Nat.{ℕ, suc, _+_, _<_, min}
 use mathlib.Core.Path.{_≡_}
 use mathlib.Core.Bool.{Bool, true, false, cond, _&&_}
 use mathlib.Core.List.{List, [], _∷_, _++_}
 use lib.Dec.{eqb}
 use lib.ListN.{length, take, drop, getD}
-use lib.IntN.{ℤ, pos, negℤ}
-use Rattle.format.specs.Bytes.{minus, isDigit, startsLine}
-use Rattle.format.specs.Blocks.{Count, one, any, upTo, Block, columns, Rooms, free, slices, blocks}
-use Rattle.format.specs.Grammar.{namesText, File, fileText, Fits}
+use Rattle.format.specs.Bytes.{startsLine}
+use Rattle.format.specs.Blocks.{Count, one, any, upTo, Rooms, free, slices, blocks}
+use Rattle.format.specs.Grammar.{File, fileText, Fits}
 use Rattle.format.specs.Machine.{Item, byte, lines, State, stuck, at, value, isStuck, step, final, endsBefore, start}
 use Rattle.format.specs.Language.{Begins, Place, Follows, Stands}
+use Rattle.format.specs.Values.{readBlocks, fileOf}
 use Rattle.format.specs.declared.Scanned.{Scanned}
 use Rattle.format.specs.declared.Scanned.the-variants.{Whole, Faulty, Full}
 
--- THE VALUES, of a text that is known to be right: what was read, and what is left of the text
-pub record Got (A : Type 0) : Type 0 where
-  pub got : A
-  pub left : List ℕ
-
--- digits, as many as there are but at most k, read on from a
-unfoldable pub readDigits : ℕ → ℕ → List ℕ → Got ℕ
-readDigits zero a t = record { got = a; left = t }
-readDigits (suc k) a [] = record { got = a; left = [] }
-readDigits (suc k) a (b ∷ t) = cond (isDigit b) (readDigits k (a * 10 + (b - 48)) t) (record { got = a; left = b ∷ t })
-
--- a minus sign before it, or none
-abbrev pub withSign : Bool → Got ℕ → Got ℤ
-withSign true g = record { got = negℤ (pos (g .got)); left = g .left }
-withSign false g = record { got = pos (g .got); left = g .left }
-
--- a value
-unfoldable pub readValue : List ℕ → Got ℤ
-readValue [] = record { got = pos 0; left = [] }
-readValue (b ∷ t) = cond (eqb b minus) (withSign true (readDigits 18 0 t)) (withSign false (readDigits 18 0 (b ∷ t)))
-
--- so many values, each with the comma or LF after it
-unfoldable pub readLine : ℕ → List ℕ → Got (List ℤ)
-readLine zero t = record { got = []; left = t }
-readLine (suc c) t =
-    let v = readValue t in
-    let r = readLine c (drop 1 (v .left)) in
-    record { got = v .got ∷ r .got; left = r .left }
-
-abbrev pub lineHere : List ℕ → Bool
-lineHere [] = false
-lineHere (b ∷ t) = startsLine b
-
--- lines of c values while one begins, at most k
-unfoldable pub readLines : ℕ → ℕ → List ℕ → Got (List (List ℤ))
-readLines zero c t = record { got = []; left = t }
-readLines (suc k) c t =
-    let l = readLine c t in
-    let r = readLines k c (l .left) in
-    cond (lineHere t) (record { got = l .got ∷ r .got; left = r .left }) (record { got = []; left = t })
-
--- as many lines as there is room for, and never more than bytes
-abbrev pub most : Count → List ℕ → ℕ
-most one t = 1
-most any t = length t
-most (upTo n) t = n
-
--- each block: its names passed over, then its lines
-unfoldable pub readBlocks : List Block → List ℕ → Got (List (List (List ℤ)))
-readBlocks [] t = record { got = []; left = t }
-readBlocks (b ∷ bs) t =
-    let u = drop (length (namesText b)) t in
-    let ls = readLines (most (b .count) u) (columns b) u in
-    let r = readBlocks bs (ls .left) in
-    record { got = ls .got ∷ r .got; left = r .left }
-
--- the values under their names
-abbrev pub fileOf : List (List (List ℤ)) → File
-fileOf w =
-    let l = getD (getD w 0 []) 0 [] in
-    record { month = getD l 0 (pos 0); ons = getD l 1 (pos 0); agents = getD w 1 []; users = getD w 2 []; points = getD w 3 [] }
-
--- THE VERDICT: the block whose lines come next has no room for one more
+-- the block whose lines come next has no room for one more
 abbrev pub noRoom : List Item → Bool
 noRoom [] = false
 noRoom (byte c ∷ f) = false
@@ -117,3 +56,41 @@ answer f (Full p) = refused 12 p
 -- READING
 unfoldable pub reading : Rooms → List ℕ → ℕ → Answer
 reading r t from = answer (fileOf (readBlocks (blocks r) (drop from t) .got)) (scanAt r t from)
+
+-- WHAT PAPER 01 SAYS OF THE ANSWER, where s is the text from the position on
+
+-- "more lines of a kind than its slice takes"
+pub data Over (a u p : ℕ) (f : File) : Type 0 where
+  moreAgents : a < length (f .agents) → Over a u p f
+  moreUsers : u < length (f .users) → Over a u p f
+  morePoints : p < length (f .points) → Over a u p f
+
+-- at the start of the text stands a file with more lines of a kind than its slice takes
+pub record Exceeds (a u p : ℕ) (s : List ℕ) : Type 0 where
+  pub stands : Stands free s
+  pub over : Over a u p (stands .file)
+
+-- accepted: exactly this file stands at the position and the slices take it; the next position is the first byte after it
+pub record Read (a u p : ℕ) (t : List ℕ) (from : ℕ) (f : File) (next : ℕ) : Type 0 where
+  pub fits : Fits (slices a u p) f
+  pub rest : List ℕ
+  pub follows : Follows rest
+  pub is : drop from t ≡ fileText f ++ rest
+  pub next-is : next ≡ min from (length t) + length (fileText f)
+
+-- why a file comes back at its byte q: 11, no file of any size could have this byte there (or go no further than the text's end);
+-- 12, a line of values begins there, and with it the file has more lines of a kind than its slice takes
+pub data Why (a u p : ℕ) (s : List ℕ) (q number : ℕ) : Type 0 where
+  faulty : number ≡ 11 → Place (Stands free) s q → Why a u p s q number
+  tooLong : number ≡ 12 → q < length s → startsLine (getD s q 0) ≡ true → Begins (Exceeds a u p) (take (suc q) s) → Why a u p s q number
+
+-- refused: at the first byte that no file that the slices take could have there, "whichever byte comes first"
+pub record Back (a u p : ℕ) (t : List ℕ) (from number place : ℕ) : Type 0 where
+  pub past : ℕ
+  pub place-is : place ≡ min from (length t) + past
+  pub first : Place (Stands (slices a u p)) (drop from t) past
+  pub why : Why a u p (drop from t) past number
+
+abbrev pub Says : (a u p : ℕ) (t : List ℕ) (from : ℕ) → Answer → Type 0
+Says a u p t from (accepted f next) = Read a u p t from f next
+Says a u p t from (refused number place) = Back a u p t from number place
