@@ -8,4 +8,5 @@ pub mod Accepts
 pub mod FileCheck
 pub mod Values
 pub mod Scans
+pub mod Wide
 pub mod Examples

@@ -98,7 +98,7 @@ module _ (s : State) (b : ℕ) (n : endsBefore s b ≡ false) where
       let k : t ≡ v ++ u = cc in
       record { first = v; rest = u; is = k; whole = subst (λ (x : ℕ). From (step s x) v) h w; follows = f }
 
-  past-step : (t : List ℕ) → Rests (step s b) t ↔ Past (Rests s) b t
+  pub past-step : (t : List ℕ) → Rests (step s b) t ↔ Past (Rests s) b t
   unfolding run
   past-step t = (
     λ c. record {
