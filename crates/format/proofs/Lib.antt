@@ -9,4 +9,5 @@ pub mod FileCheck
 pub mod Values
 pub mod Scans
 pub mod Wide
+pub mod Answers
 pub mod Examples

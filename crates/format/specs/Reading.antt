@@ -1,5 +1,5 @@
 -- Reading one file at a position of a text (paper 01, "The month file" and "Why a month comes back", 11 and 12): the verdict by the
--- machine, with the values; and below it what paper 01 says of the answer, with no machine. proofs/Reads.antt proves that the answer is
+-- machine, with the values; and below it what paper 01 says of the answer, with no machine. proofs/Answers.antt proves that the answer is
 -- so, and that nothing else is. Assumes nothing.
 use Prim.Native.Nat.{ℕ, suc, _+_, _<_, min}
 use mathlib.Core.Path.{_≡_}
