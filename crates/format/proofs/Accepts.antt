@@ -81,7 +81,7 @@ unfolding run
 nothing s h = h
 
 -- a further file begins as a first one does
-begins-m : (f : File) (t : List ℕ) → (u : List ℕ) × (fileText f ++ t ≡ m ∷ u)
+pub begins-m : (f : File) (t : List ℕ) → (u : List ℕ) × (fileText f ++ t ≡ m ∷ u)
 unfolding more line blocksText
 begins-m f t = (_, refl)
 

@@ -1,11 +1,13 @@
 -- READING, in paper 01's words: its answer is what paper 01 says, and paper 01's words leave no other. Assumes nothing.
 use Prim.Native.Nat.{ℕ, zero, suc, _+_, _≤_, _<_, min}
 use mathlib.Core.Path.{_≡_, refl, ap, sym, _∙_, subst}
+use mathlib.Core.Logic.{_↔_}
 use mathlib.Core.Bool.{true}
 use mathlib.Core.List.{List, [], _∷_, _++_}
 use native.Mathlib.Omega.{arith}
 use native.Mathlib.Decide.{decLe}
-use lib.ListN.{length, take, drop, getD}
+use lib.ListN.{length, take, drop, getD, length-append}
+use lib.Seq.{drop-append-seam}
 use Rattle.format.specs.Bytes.{startsLine}
 use Rattle.format.specs.Blocks.{Rooms, free, slices, blocks}
 use Rattle.format.specs.Grammar.{File, fileText, Fits}
@@ -162,3 +164,27 @@ module _ (a u p : ℕ) (t : List ℕ) (from : ℕ) where
       let h : q ≡ o = x .place-is ∙ ap (λ (z : ℕ). k + z) e ∙ sym (y .place-is) in
       let i : c ≡ d = same-number (y .past) c d (subst (λ (z : ℕ). Why a u p s z c) e (x .why)) (y .why) in
       ap (λ (z : ℕ). refused z q) i ∙ ap (refused d) h
+
+  -- so reading's answer is x exactly where paper 01 says x
+  pub reading-is : (x : Answer) → (reading (slices a u p) t from ≡ x) ↔ Says a u p t from x
+  reading-is x = (λ e. subst (Says a u p t from) e reads, λ c. one-answer (reading (slices a u p) t from) x reads c)
+
+-- THE ROUND TRIP: wherever the text of a file stands that the slices take, and the text ends after it or goes on with an `m`, that file is
+-- read, and the next position is the first byte after it
+pub round-trip :
+    (a u p : ℕ) (f : File) (before after : List ℕ)
+    → Fits (slices a u p) f
+    → Follows after
+    → reading (slices a u p) (before ++ (fileText f ++ after)) (length before) ≡ accepted f (length before + length (fileText f))
+round-trip a u p f before after x e =
+    let t : List ℕ = before ++ (fileText f ++ after) in
+    let n : length t ≡ length before + length (fileText f ++ after) = length-append before (fileText f ++ after) in
+    let h : length before ≡ min (length before) (length t) = omega arith in
+    reading-is a u p t (length before) (accepted f (length before + length (fileText f))) .1
+    (record {
+      fits = x;
+      rest = after;
+      follows = e;
+      is = drop-append-seam before (fileText f ++ after);
+      next-is = ap (λ (k : ℕ). k + length (fileText f)) h;
+    })

@@ -10,4 +10,5 @@ pub mod Values
 pub mod Scans
 pub mod Wide
 pub mod Answers
+pub mod FileByFile
 pub mod Examples

@@ -94,3 +94,8 @@ pub record Back (a u p : ℕ) (t : List ℕ) (from number place : ℕ) : Type 0 
 abbrev pub Says : (a u p : ℕ) (t : List ℕ) (from : ℕ) → Answer → Type 0
 Says a u p t from (accepted f next) = Read a u p t from f next
 Says a u p t from (refused number place) = Back a u p t from number place
+
+-- file after file is read to the text's end
+pub data ReadsOn (a u p : ℕ) (t : List ℕ) : ℕ → Type 0 where
+  last : (from : ℕ) (f : File) → reading (slices a u p) t from ≡ accepted f (length t) → ReadsOn a u p t from
+  then : (from : ℕ) (f : File) (next : ℕ) → reading (slices a u p) t from ≡ accepted f next → ReadsOn a u p t next → ReadsOn a u p t from
