@@ -6,7 +6,7 @@ use mathlib.Core.List.{List, [], _∷_, _++_}
 use native.Mathlib.Omega.{arith}
 use lib.Dec.{leb, ltb, eqb}
 use borrow.Author.Tests.{eq-eqb}
-use Rattle.format.specs.Bytes.{lf, comma, minus, isDigit, startsLine}
+use Rattle.format.specs.Bytes.{lf, comma, minus, isDigit, isLead, startsLine}
 use Rattle.format.specs.Blocks.{Count, one, any, upTo, Rooms}
 use Rattle.format.specs.Grammar.{more, line}
 use Rattle.format.specs.Machine.{Item, byte, lines, format, Part, fresh, signed, nought, digits, State, stuck, at, value, isStuck, lead, ends, inValue, enter, step, ended, final, start, run, From}
@@ -42,7 +42,7 @@ good-cond false x y a b = b
 
 module _ (b : ℕ) where
   good-lead : (k : ℕ) (f : List Item) → Sound f → Good (lead k f b)
-  good-lead k f t = good-cond (leb 49 b && ltb b 58) (value (digits 1) k f) stuck t tt
+  good-lead k f t = good-cond (isLead b) (value (digits 1) k f) stuck t tt
 
   good-ends : (k : ℕ) (f : List Item) → Sound f → Good (ends k f b)
   good-ends zero f t = good-cond (eqb b lf) (at f) stuck t tt

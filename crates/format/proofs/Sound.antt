@@ -8,7 +8,7 @@ use lib.Dec.{leb, ltb, eqb}
 use lib.ListN.{length}
 use lib.IntN.{ℤ}
 use borrow.Author.Tests.{leb-true, ltb-true, eqb-true}
-use Rattle.format.specs.Bytes.{lf, comma, isDigit, startsLine, Digit}
+use Rattle.format.specs.Bytes.{lf, comma, isDigit, isLead, startsLine, Digit}
 use Rattle.format.specs.Bytes as B
 use Rattle.format.specs.Blocks.{Count, one, any, upTo, Rooms}
 use Rattle.format.specs.Decimal as D
@@ -60,6 +60,9 @@ both false q e = not-both false refl e
 
 pub digit-in : (b : ℕ) → isDigit b ≡ true → Digit b
 digit-in b e = let c = both (leb 48 b) (ltb b 58) e in record { low = leb-true 48 b (c .0); high = ltb-true b 58 (c .1) }
+
+lead-in : (b : ℕ) → isLead b ≡ true → (49 ≤ b) × (b < 58)
+lead-in b e = let c = both (leb 49 b) (ltb b 58) e in (leb-true 49 b (c .0), ltb-true b 58 (c .1))
 
 module _ (b : ℕ) (t : List ℕ) where
   -- the byte after a whole value
@@ -114,8 +117,8 @@ module _ (b : ℕ) (t : List ℕ) where
   -- a first digit that is not 0
   leading : (q : Part) (k : ℕ) (g : List Item) → ((u : List ℕ) → Numeral u → Left q u) → Tail (lead k g b) t → InLine q k g (b ∷ t)
   leading q k g l h =
-      let c = passed (leb 49 b && ltb b 58) (value (digits 1) k g) t h in
-      let d = both (leb 49 b) (ltb b 58) (c .0) in
+      let c = passed (isLead b) (value (digits 1) k g) t h in
+      let d = lead-in b (c .0) in
       let i = c .1 in
       longer (digits 1) q k g i
       (l (b ∷ i .rest)
@@ -123,8 +126,8 @@ module _ (b : ℕ) (t : List ℕ) where
         first = b;
         rest = i .rest;
         is = refl;
-        low = leb-true 49 b (d .0);
-        high = ltb-true b 58 (d .1);
+        low = d .0;
+        high = d .1;
         digits = i .left .0;
         short = omega (arith, i .left .1);
       }))

@@ -9,7 +9,7 @@ use native.Mathlib.Decide.{decLe, ℕ-discrete}
 use lib.Dec.{leb, ltb, eqb}
 use lib.ListN.{length, take, getD}
 use borrow.Author.Tests.{leb-true, ltb-true, eqb-true, le-leb, lt-ltb, eq-eqb, ne-eqb}
-use Rattle.format.specs.Bytes.{lf, comma, minus, isDigit, startsLine}
+use Rattle.format.specs.Bytes.{lf, comma, minus, isDigit, isLead, startsLine}
 use Rattle.format.specs.Blocks.{Count, one, any, upTo, free, slices}
 use Rattle.format.specs.Grammar.{more, line}
 use Rattle.format.specs.Machine.{Item, byte, lines, format, Part, fresh, signed, nought, digits, State, stuck, at, value, isStuck, lead, ends, inValue, enter, step, ended, final, endsBefore, start, run, From}
@@ -92,7 +92,7 @@ wide-cond false x y x' y' d e = e
 
 module _ (b : ℕ) where
   wide-lead : (k : ℕ) (f : List Item) → lead k (widen f) b ≡ wide (lead k f b)
-  wide-lead k f = wide-cond (leb 49 b && ltb b 58) (value (digits 1) k f) stuck _ _ refl refl
+  wide-lead k f = wide-cond (isLead b) (value (digits 1) k f) stuck _ _ refl refl
 
   wide-ends : (k : ℕ) (f : List Item) → ends k (widen f) b ≡ wide (ends k f b)
   wide-ends zero f = wide-cond (eqb b lf) (at f) stuck _ _ refl refl

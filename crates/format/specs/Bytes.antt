@@ -32,6 +32,10 @@ pub record Digit (b : ℕ) : Type 0 where
   pub low : 48 ≤ b
   pub high : b < 58
 
+-- a digit but 0
+abbrev pub isLead : ℕ → Bool
+isLead b = leb 49 b && ltb b 58
+
 -- "a line of values begins at a digit or minus sign" (paper 01, "Why a month comes back")
 abbrev pub startsLine : ℕ → Bool
 startsLine b = eqb b minus || isDigit b

@@ -5,10 +5,10 @@ use Prim.Native.Nat.{ℕ, zero, suc, _+_, _-_}
 use mathlib.Core.Path.{_≡_}
 use mathlib.Core.Bool.{Bool, true, false, cond, _&&_}
 use mathlib.Core.List.{List, [], _∷_, _++_, map}
-use lib.Dec.{leb, ltb, eqb}
+use lib.Dec.{ltb, eqb}
 use lib.ListN.{length}
 use lib.IntN.{ℤ, pos, negsuc}
-use Rattle.format.specs.Bytes.{lf, comma, minus, m, isDigit, startsLine}
+use Rattle.format.specs.Bytes.{lf, comma, minus, m, isDigit, isLead, startsLine}
 use Rattle.format.specs.Blocks.{Count, one, any, upTo, Block, columns, Rooms, free, blocks}
 use Rattle.format.specs.Grammar.{namesText}
 
@@ -49,7 +49,7 @@ isStuck (value p k f) = false
 
 -- a first digit that is not 0
 abbrev pub lead : ℕ → List Item → ℕ → State
-lead k f b = cond (leb 49 b && ltb b 58) (value (digits 1) k f) stuck
+lead k f b = cond (isLead b) (value (digits 1) k f) stuck
 
 -- after a whole value: a comma where its line has more values, else LF
 abbrev pub ends : ℕ → List Item → ℕ → State
