@@ -11,7 +11,7 @@ use borrow.Author.Tests.{lt-ltb, le-ltb}
 use Rattle.format.specs.Blocks.{free}
 use Rattle.format.specs.Grammar.{Files}
 use Rattle.format.specs.Machine.{State, stuck, isStuck, step, final, endsBefore, start, onward, run, Accepted, Verdict, passes, fails, judge, number, checkOf}
-use Rattle.format.specs.Language.{Begins, Place, Judged}
+use Rattle.format.specs.Language.{Begins, Place, Judged, Checked}
 use Rattle.format.proofs.Live.{not-both, Good, good-cond, good-step, sound-format, complete, live, is-stuck}
 use Rattle.format.proofs.Places.{here-end, here-byte, later, one-place, no-place, same-place}
 use Rattle.format.proofs.Accepts.{On, joined, nothing, accepts}
@@ -88,12 +88,7 @@ from-nought t (fails p) l =
 pub judged : (t : List ℕ) → Judged Files t (judge (start free) 0 t)
 judged t = from-nought t (judge (start free) 0 t) (claim (start free) (sound-format free) refl 0 t)
 
--- THE FILE CHECK
-pub record Checked (t : List ℕ) (r : ℤ) : Type 0 where
-  pub over : 1_000_000_000_000_000 < length t → r ≡ negsuc 1
-  pub fine : length t ≤ 1_000_000_000_000_000 → (r ≡ negsuc 0) ↔ Files t
-  pub place : length t ≤ 1_000_000_000_000_000 → (p : ℕ) → (r ≡ pos p) ↔ Place Files t p
-
+-- what a verdict tells as a number
 module _ (t : List ℕ) where
   fine-number : (v : Verdict) → Judged Files t v → (number v ≡ negsuc 0) ↔ Files t
   fine-number passes j = (λ e. j, λ f. refl)
@@ -112,7 +107,7 @@ module _ (t : List ℕ) where
   unfolding checkOf
   check-within h = rw (le-ltb 1_000_000_000_000_000 (length t) h)
 
--- the file check answers as paper 01 says
+-- THE FILE CHECK answers as paper 01 says
 pub file-check : (t : List ℕ) → Checked t (checkOf t)
 file-check t =
     let v = judge (start free) 0 t in

@@ -1,12 +1,14 @@
 -- Reading one file at a position of a text (paper 01, "The month file" and "Why a month comes back", 11 and 12): the verdict by the
 -- machine, with the values; and below it what paper 01 says of the answer, with no machine. proofs/Answers.antt proves that the answer is
 -- so, and that nothing else is. Assumes nothing.
-use Prim.Native.Nat.{ℕ, suc, _+_, _<_, min}
+use Prim.Native.Nat.{ℕ, suc, _+_, _≤_, _<_, min}
 use mathlib.Core.Path.{_≡_}
 use mathlib.Core.Bool.{Bool, true, false, cond, _&&_}
 use mathlib.Core.List.{List, [], _∷_, _++_}
 use lib.Dec.{eqb}
-use lib.ListN.{length, take, drop, getD}
+use native.Mathlib.Omega.{arith}
+use lib.ListN.{length, take, drop, getD, drop-of-length-le}
+use lib.Seq.{drop-length}
 use Rattle.format.specs.Bytes.{startsLine}
 use Rattle.format.specs.Blocks.{Count, one, any, upTo, Rooms, free, slices, blocks}
 use Rattle.format.specs.Grammar.{File, fileText, Fits}
@@ -56,6 +58,12 @@ answer f (Full p) = refused 12 p
 -- READING
 unfoldable pub reading : Rooms → List ℕ → ℕ → Answer
 reading r t from = answer (fileOf (readBlocks (blocks r) (drop from t) .got)) (scanAt r t from)
+
+pub past-the-end : (r : Rooms) (t : List ℕ) (from : ℕ) → length t ≤ from → reading r t from ≡ reading r t (length t)
+unfolding reading scanAt
+past-the-end r t from h =
+    let e : min from (length t) ≡ min (length t) (length t) = omega arith in
+    rw (drop-of-length-le t h, drop-length, e)
 
 -- WHAT PAPER 01 SAYS OF THE ANSWER, where s is the text from the position on
 
