@@ -12,7 +12,7 @@ use Rattle.format.specs.Blocks.{free}
 use Rattle.format.specs.Grammar.{Files}
 use Rattle.format.specs.Machine.{State, stuck, isStuck, step, final, endsBefore, start, onward, run, Accepted, Verdict, passes, fails, judge, number, checkOf}
 use Rattle.format.specs.Language.{Begins, Place, Judged, Checked}
-use Rattle.format.proofs.Live.{not-both, Good, good-cond, good-step, sound-format, complete, live, is-stuck}
+use Rattle.format.proofs.Live.{not-both, Sound, Good, holds-cond, good-step, sound-format, complete, live, is-stuck}
 use Rattle.format.proofs.Places.{here-end, here-byte, later, one-place, no-place, same-place}
 use Rattle.format.proofs.Accepts.{On, joined, nothing, accepts}
 
@@ -26,7 +26,7 @@ alive s g n =
 
 good-onward : (b : ℕ) (s : State) → Good s → Good (onward s b)
 unfolding onward
-good-onward b s g = good-cond (endsBefore s b) _ (step s b) (good-step b (start free) (sound-format free)) (good-step b s g)
+good-onward b s g = holds-cond Sound (endsBefore s b) _ (step s b) (good-step b (start free) (sound-format free)) (good-step b s g)
 
 no-end : (t : List ℕ) → On stuck t → ⊥
 unfolding run onward step

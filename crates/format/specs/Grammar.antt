@@ -7,6 +7,7 @@ use mathlib.Core.List.{List, [], _∷_, _++_, map}
 use lib.ListN.{length}
 use lib.IntN.{ℤ}
 use Rattle.format.specs.Bytes.{bytes, lf, comma}
+use Rattle.format.specs.Blocks as Table
 use Rattle.format.specs.Blocks.{Count, one, any, upTo, Block, columns, Rooms, free, slices, blocks}
 use Rattle.format.specs.Decimal.{text, Small, All}
 
@@ -92,9 +93,9 @@ Fits r f = BlocksFit (blocks r) (rows f)
 pub record FitsSlices (a u p : ℕ) (f : File) : Type 0 where
   pub month : Small (f .month)
   pub ons : Small (f .ons)
-  pub agents : All (LineFits 7) (f .agents)
-  pub users : All (LineFits 3) (f .users)
-  pub points : All (LineFits 9) (f .points)
+  pub agents : All (LineFits (columns (Table.agents any))) (f .agents)
+  pub users : All (LineFits (columns (Table.users any))) (f .users)
+  pub points : All (LineFits (columns (Table.points any))) (f .points)
   pub fewAgents : length (f .agents) ≤ a
   pub fewUsers : length (f .users) ≤ u
   pub fewPoints : length (f .points) ≤ p
