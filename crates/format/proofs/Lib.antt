@@ -11,4 +11,6 @@ pub mod Scans
 pub mod Wide
 pub mod Answers
 pub mod FileByFile
+pub mod Changed
+pub mod Counts
 pub mod Examples
