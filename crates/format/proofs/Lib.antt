@@ -7,10 +7,10 @@ pub mod Places
 pub mod Accepts
 pub mod FileCheck
 pub mod Values
+pub mod Changed
 pub mod Scans
 pub mod Wide
 pub mod Answers
 pub mod FileByFile
-pub mod Changed
 pub mod Counts
 pub mod Examples
