@@ -1,7 +1,7 @@
 -- READING'S VERDICT BY A COUNT: the machine of the file check, with a count of the lines begun in the block at hand, gives the verdict of
 -- the machine that holds the room left. Assumes nothing.
 use Prim.Native.Nat.{ℕ, zero, suc, _+_, _-_, _≤_, _<_, min}
-use mathlib.Core.Path.{_≡_, refl, ap, sym, _∙_, subst}
+use mathlib.Core.Path.{_≡_, refl, ap, sym, _∙_}
 use mathlib.Core.Bool.{Bool, true, false, cond, _&&_, and-true, and-false}
 use mathlib.Core.List.{List, [], _∷_}
 use native.Mathlib.Omega.{arith}
@@ -10,14 +10,14 @@ use lib.Dec.{leb, eqb}
 use lib.ListN.{length, drop}
 use borrow.Author.Tests.{le-leb, lt-leb, leb-false, eq-eqb, ne-eqb}
 use Rattle.format.specs.Bytes.{startsLine}
-use Rattle.format.specs.Blocks.{Count, one, any, upTo, free, slices}
+use Rattle.format.specs.Blocks.{one, any, upTo, free, slices}
 use Rattle.format.specs.Grammar.{more, line}
 use Rattle.format.specs.Machine.{Item, byte, lines, format, fresh, State, stuck, at, value, isStuck, inValue, enter, step, ended, final, endsBefore, start}
-use Rattle.format.specs.Reading.{noRoom, tooMany, scan, scanAt}
-use Rattle.format.specs.Counting.{blocksIn, many, after, capacity, full, counted, scanBy}
+use Rattle.format.specs.Reading.{tooMany, scan, scanAt}
+use Rattle.format.specs.Counting.{blocksIn, capacity, full, counted, scanBy}
 use Rattle.format.specs.declared.Scanned.{Scanned}
 use Rattle.format.specs.declared.Scanned.the-variants.{Whole, Faulty, Full}
-use Rattle.format.proofs.Live.{not-both, Holds, Kept, keep-step}
+use Rattle.format.proofs.Live.{Holds, Kept, keep-step}
 use Rattle.format.proofs.Changed.{with, with-final, with-stuck, with-cond, with-value}
 
 -- no limit stands in the items

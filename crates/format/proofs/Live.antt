@@ -1,15 +1,15 @@
 -- EVERY STATE of the machine but the stuck one CAN BE FINISHED: some text leads from it to the end of a file. Assumes nothing.
 use Prim.Native.Nat.{ℕ, zero, suc, _+_}
 use mathlib.Core.Path.{_≡_, refl, ap, sym, _∙_, subst}
-use mathlib.Core.Bool.{Bool, true, false, cond, _&&_}
+use mathlib.Core.Bool.{Bool, true, false, cond}
 use mathlib.Core.List.{List, [], _∷_, _++_}
 use native.Mathlib.Omega.{arith}
-use lib.Dec.{leb, ltb, eqb}
+use lib.Dec.{ltb, eqb}
 use borrow.Author.Tests.{eq-eqb}
 use Rattle.format.specs.Bytes.{lf, comma, minus, isDigit, isLead, startsLine}
-use Rattle.format.specs.Blocks.{Count, one, any, upTo, Rooms}
+use Rattle.format.specs.Blocks.{one, any, upTo, Rooms}
 use Rattle.format.specs.Grammar.{more, line}
-use Rattle.format.specs.Machine.{Item, byte, lines, format, Part, fresh, signed, nought, digits, State, stuck, at, value, isStuck, lead, ends, inValue, enter, step, ended, final, start, run, From}
+use Rattle.format.specs.Machine.{Item, byte, lines, format, Part, fresh, signed, nought, digits, State, stuck, at, value, isStuck, lead, ends, inValue, enter, step, final, run, From}
 
 -- true is not false
 pub not-both : {X : Type 0} (t : Bool) → t ≡ false → t ≡ true → X

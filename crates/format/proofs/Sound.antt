@@ -1,6 +1,6 @@
 -- SOUNDNESS: a text that leads the machine from the start to the end of a file is a file's text. Assumes nothing.
 use Prim.Native.Nat.{ℕ, zero, suc, _+_, _-_, _≤_, _<_, zero-le, suc-le-suc}
-use mathlib.Core.Path.{_≡_, refl, ap, sym, _∙_, subst}
+use mathlib.Core.Path.{_≡_, refl, ap, sym, _∙_}
 use mathlib.Core.Bool.{Bool, true, false, cond, _&&_}
 use mathlib.Core.List.{List, [], _∷_, _++_, map, append-assoc}
 use native.Mathlib.Omega.{arith}
@@ -15,7 +15,7 @@ use Rattle.format.specs.Decimal as D
 use Rattle.format.specs.Decimal.{text, Small, All, Numeral, Value}
 use Rattle.format.specs.Grammar.{more, line, lineText, linesText, LineFits, Counted, File, fileText, Fits}
 use Rattle.format.specs.Machine.{Item, byte, lines, format, Part, fresh, signed, nought, digits, State, stuck, at, value, lead, ends, inValue, enter, step, ended, final, start, run, From}
-use Rattle.format.proofs.Decimals.{TextOf, text-of}
+use Rattle.format.proofs.Decimals.{text-of}
 use Rattle.format.proofs.Live.{not-both}
 use Rattle.format.proofs.Laid.{spell, Spells, file-text, spelt}
 

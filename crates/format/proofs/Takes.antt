@@ -1,16 +1,16 @@
 -- COMPLETENESS: every file's text leads the machine from the start to the end of a file. Assumes nothing.
 use Prim.Native.Nat.{ℕ, zero, suc, _+_, _≤_, _<_}
 use mathlib.Core.Path.{_≡_, refl, ap, sym, _∙_, subst}
-use mathlib.Core.Bool.{Bool, true, false}
+use mathlib.Core.Bool.{true, false}
 use mathlib.Core.List.{List, [], _∷_, _++_, map, append-assoc}
 use native.Mathlib.Omega.{arith}
 use lib.ListN.{length}
 use lib.IntN.{ℤ}
 use borrow.Author.Tests.{lt-ltb, le-leb, ne-eqb}
 use Rattle.format.specs.Bytes.{lf, comma, minus, isDigit, startsLine, Digit}
-use Rattle.format.specs.Blocks.{Count, one, any, upTo, Rooms}
+use Rattle.format.specs.Blocks.{one, any, upTo, Rooms}
 use Rattle.format.specs.Decimal as D
-use Rattle.format.specs.Decimal.{text, Small, All, Numeral, Value}
+use Rattle.format.specs.Decimal.{text, Small, All, Value}
 use Rattle.format.specs.Grammar.{more, line, lineText, linesText, LineFits, File, rows, fileText, Fits}
 use Rattle.format.specs.Machine.{Item, byte, lines, format, fresh, signed, nought, digits, State, at, value, ends, inValue, enter, step, final, start, run, From}
 use Rattle.format.proofs.Decimals.{value-of}

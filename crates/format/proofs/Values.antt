@@ -9,7 +9,7 @@ use lib.Seq.{drop-append-seam}
 use lib.IntN.{ℤ, pos, negsuc}
 use borrow.Author.Tests.{ne-eqb}
 use Rattle.format.specs.Bytes.{lf, comma, minus, isDigit, startsLine, Digit}
-use Rattle.format.specs.Blocks.{Count, one, any, upTo, Block, columns, Rooms, free, blocks}
+use Rattle.format.specs.Blocks.{Count, one, any, upTo, Block, columns, Rooms, blocks}
 use Rattle.format.specs.Decimal.{shown, text, Small, All}
 use Rattle.format.specs.Grammar.{more, line, namesText, lineText, linesText, blocksText, LineFits, Counted, BlocksFit, File, rows, fileText, Fits}
 use Rattle.format.specs.Language.{Follows}

@@ -5,7 +5,7 @@ use mathlib.Core.Bool.{Bool, true, false, cond, _&&_}
 use mathlib.Core.List.{List, [], _∷_}
 use lib.Dec.{leb, eqb}
 use Rattle.format.specs.Bytes.{startsLine}
-use Rattle.format.specs.Blocks.{Count, one, any, upTo}
+use Rattle.format.specs.Blocks.{one, any, upTo}
 use Rattle.format.specs.Machine.{Item, byte, lines, State, stuck, at, value, isStuck, step, final, endsBefore}
 use Rattle.format.specs.declared.Scanned.{Scanned}
 use Rattle.format.specs.declared.Scanned.the-variants.{Whole, Faulty, Full}

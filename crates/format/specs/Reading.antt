@@ -10,7 +10,7 @@ use native.Mathlib.Omega.{arith}
 use lib.ListN.{length, take, drop, getD, drop-of-length-le}
 use lib.Seq.{drop-length}
 use Rattle.format.specs.Bytes.{startsLine}
-use Rattle.format.specs.Blocks.{Count, one, any, upTo, Rooms, free, slices, blocks}
+use Rattle.format.specs.Blocks.{one, any, upTo, Rooms, free, slices, blocks}
 use Rattle.format.specs.Grammar.{File, fileText, Fits}
 use Rattle.format.specs.Machine.{Item, byte, lines, State, stuck, at, value, isStuck, step, final, endsBefore, start}
 use Rattle.format.specs.Language.{Begins, Place, Follows, Stands}
