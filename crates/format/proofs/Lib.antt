@@ -13,4 +13,5 @@ pub mod Wide
 pub mod Answers
 pub mod FileByFile
 pub mod Counts
+pub mod CheckPlace
 pub mod Examples

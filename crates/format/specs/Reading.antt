@@ -107,3 +107,12 @@ Says a u p t from (refused number place) = Back a u p t from number place
 pub data ReadsOn (a u p : ℕ) (t : List ℕ) : ℕ → Type 0 where
   last : (from : ℕ) (f : File) → reading (slices a u p) t from ≡ accepted f (length t) → ReadsOn a u p t from
   then : (from : ℕ) (f : File) (next : ℕ) → reading (slices a u p) t from ≡ accepted f next → ReadsOn a u p t next → ReadsOn a u p t from
+
+-- file after file is read, and before the text's end one comes back with this number and place
+pub data ComesBack (a u p : ℕ) (t : List ℕ) : ℕ → ℕ → ℕ → Type 0 where
+  here : (from number place : ℕ) → reading (slices a u p) t from ≡ refused number place → ComesBack a u p t from number place
+  further : (from : ℕ) (f : File) (next number place : ℕ)
+      → reading (slices a u p) t from ≡ accepted f next
+      → next < length t
+      → ComesBack a u p t next number place
+      → ComesBack a u p t from number place
