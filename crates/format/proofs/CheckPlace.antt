@@ -6,15 +6,15 @@ use mathlib.Core.Logic.{_↔_, _⊎_, inl, inr, ⊎-elim}
 use mathlib.Core.Bool.{Bool, true, false, cond, _&&_}
 use mathlib.Core.List.{List, [], _∷_}
 use native.Mathlib.Omega.{arith}
-use native.Mathlib.Decide.{decLe, ℕ-discrete}
+use native.Mathlib.Decide.{decLe}
 use lib.Dec.{leb, eqb}
 use lib.ListN.{length, drop, length-drop}
 use lib.Seq.{drop-drop}
-use lib.IntN.{ℤ, pos, negsuc}
+use lib.IntN.{pos, negsuc}
 use borrow.Author.Tests.{leb-true}
 use Rattle.format.specs.Bytes.{startsLine}
 use Rattle.format.specs.Blocks.{free, slices}
-use Rattle.format.specs.Grammar.{more, line, File}
+use Rattle.format.specs.Grammar.{line, File}
 use Rattle.format.specs.Machine.{State, stuck, at, value, isStuck, step, final, endsBefore, format, start, onward, Verdict, passes, fails, judge, number, checkOf}
 use Rattle.format.specs.Reading.{tooMany, scan, scanAt, Answer, accepted, refused, answer, reading, ReadsOn, last, then, ComesBack, here, further}
 use Rattle.format.specs.Counting.{many, after, capacity, full, counted, scanBy}
