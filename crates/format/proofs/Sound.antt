@@ -8,7 +8,7 @@ use lib.Dec.{leb, ltb, eqb}
 use lib.ListN.{length}
 use lib.IntN.{ℤ}
 use borrow.Author.Tests.{leb-true, ltb-true, eqb-true}
-use Rattle.format.specs.Bytes.{lf, comma, isDigit, isLead, startsLine, Digit}
+use Rattle.format.specs.Bytes.{lf, comma, isDigit, is-digit, isLead, startsLine, Digit}
 use Rattle.format.specs.Bytes as B
 use Rattle.format.specs.Blocks.{Count, one, any, upTo, Rooms}
 use Rattle.format.specs.Decimal as D
@@ -57,9 +57,6 @@ passed false s t h = absurd h
 both : (p q : Bool) → (p && q) ≡ true → (p ≡ true) × (q ≡ true)
 both true q e = (refl, e)
 both false q e = not-both false refl e
-
-pub digit-in : (b : ℕ) → isDigit b ≡ true → Digit b
-digit-in b e = let c = both (leb 48 b) (ltb b 58) e in record { low = leb-true 48 b (c .0); high = ltb-true b 58 (c .1) }
 
 lead-in : (b : ℕ) → isLead b ≡ true → (49 ≤ b) × (b < 58)
 lead-in b e = let c = both (leb 49 b) (ltb b 58) e in (leb-true 49 b (c .0), ltb-true b 58 (c .1))
@@ -156,7 +153,7 @@ module _ (b : ℕ) (t : List ℕ) where
       by true e i =
           let c = passed (ltb n 18) (value (digits (n + 1)) k g) t i in
           let l = ltb-true n 18 (c .0) in
-          longer (digits (n + 1)) (digits n) k g (c .1) ((digit-in b e, c .1 .left .0), omega (arith, c .1 .left .1))
+          longer (digits (n + 1)) (digits n) k g (c .1) ((is-digit b .0 e, c .1 .left .0), omega (arith, c .1 .left .1))
       by false e i = back-ends (digits n) (tt, zero-le) k g i
 
   back-value : (p : Part) (k : ℕ) (g : List Item) → Tail (inValue p k g b) t → InLine p k g (b ∷ t)

@@ -17,6 +17,7 @@ pub data Item : Type 0 where
   byte : ℕ → Item
   lines : Count → ℕ → Item
 
+-- a block laid out, and blocks
 abbrev pub items : Block → List Item
 items b = map byte (namesText b) ++ (lines (b .count) (columns b - 1) ∷ [])
 
@@ -24,7 +25,7 @@ abbrev pub laidOut : List Block → List Item
 laidOut [] = []
 laidOut (b ∷ bs) = items b ++ laidOut bs
 
--- a whole file
+-- a whole file laid out, for so many lines
 unfoldable pub format : Rooms → List Item
 format r = laidOut (blocks r)
 
@@ -42,6 +43,7 @@ pub data State : Type 0 where
   at : List Item → State
   value : Part → ℕ → List Item → State
 
+-- no file goes on so
 abbrev pub isStuck : State → Bool
 isStuck stuck = true
 isStuck (at f) = false
@@ -92,9 +94,11 @@ final stuck = false
 final (at f) = ended f
 final (value p k f) = false
 
+-- a file ends before this byte
 abbrev pub endsBefore : State → ℕ → Bool
 endsBefore s b = final s && eqb b m
 
+-- before the first byte of a file
 abbrev pub start : Rooms → State
 start r = at (format r)
 

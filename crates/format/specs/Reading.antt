@@ -50,12 +50,13 @@ pub data Answer : Type 0 where
   accepted : File → ℕ → Answer
   refused : ℕ → ℕ → Answer
 
+-- a verdict as an answer, with paper 01's number
 abbrev pub answer : File → Scanned → Answer
 answer f (Whole n) = accepted f n
 answer f (Faulty p) = refused 11 p
 answer f (Full p) = refused 12 p
 
--- READING
+-- READING: the verdict on the file at the position, and where it is whole the file's values
 unfoldable pub reading : Rooms → List ℕ → ℕ → Answer
 reading r t from = answer (fileOf (readBlocks (blocks r) (drop from t) .got)) (scanAt r t from)
 
@@ -99,6 +100,7 @@ pub record Back (a u p : ℕ) (t : List ℕ) (from number place : ℕ) : Type 0 
   pub first : Place (Stands (slices a u p)) (drop from t) past
   pub why : Why a u p (drop from t) past number
 
+-- what an answer says
 abbrev pub Says : (a u p : ℕ) (t : List ℕ) (from : ℕ) → Answer → Type 0
 Says a u p t from (accepted f next) = Read a u p t from f next
 Says a u p t from (refused number place) = Back a u p t from number place

@@ -40,6 +40,7 @@ readLine (suc c) t =
     let r = readLine c (drop 1 (v .left)) in
     record { got = v .got ∷ r .got; left = r .left }
 
+-- "a line of values begins at a digit or minus sign"
 abbrev pub lineHere : List ℕ → Bool
 lineHere [] = false
 lineHere (b ∷ t) = startsLine b
@@ -52,7 +53,7 @@ readLines (suc k) c t =
     let r = readLines k c (l .left) in
     cond (lineHere t) (record { got = l .got ∷ r .got; left = r .left }) (record { got = []; left = t })
 
--- as many lines as there is room for, and never more than bytes
+-- how many lines to read at most: as many as there is room for; where there is room for any count, as many as there are bytes
 abbrev pub most : Count → List ℕ → ℕ
 most one t = 1
 most any t = length t
