@@ -87,7 +87,12 @@ module _ (a u p : ℕ) (t : List ℕ) (from : ℕ) where
       }
 
   -- 12: what goes on with more room has more lines of a kind than its slice takes
-  exceeds : (q : ℕ) → q < length s → Place (Stands r) s q → Begins (Rests (wide (start r))) (take (suc q) s) → Begins (Exceeds a u p) (take (suc q) s)
+  exceeds :
+      (q : ℕ)
+      → q < length s
+      → Place (Stands r) s q
+      → Begins (Rests (wide (start r))) (take (suc q) s)
+      → Begins (Exceeds a u p) (take (suc q) s)
   exceeds q h c w =
       let x : Stands free (take (suc q) s ++ w .rest) =
       rests-stands free (take (suc q) s ++ w .rest) .0
@@ -126,7 +131,11 @@ module _ (a u p : ℕ) (t : List ℕ) (from : ℕ) where
   unfolding reading scanAt
   reads = by (scan (start r) k s) (claim (start r) (sound-format r) refl k s) (wider (start r) (sound-format r) k s)
     where
-      by : (v : Scanned) → Claim (start r) s k v → Wider (start r) s k v → Says a u p t from (answer (fileOf (readBlocks (blocks r) s .got)) v)
+      by :
+          (v : Scanned)
+          → Claim (start r) s k v
+          → Wider (start r) s k v
+          → Says a u p t from (answer (fileOf (readBlocks (blocks r) s .got)) v)
       by (Whole n) c w = read-whole n c
       by (Faulty n) c w = back-faulty n c w
       by (Full n) c w = back-full n c w

@@ -178,13 +178,21 @@ module _ (a u p : ℕ) (t : List ℕ) (ha : length t ≤ a) (hu : length t ≤ u
   unfolding reading scanAt
   was-fault from c q e = by (scan (start (slices a u p)) (min from (length t)) (drop from t)) _ refl e
     where
-      by : (v : Scanned) (g : File) → scan (start (slices a u p)) (min from (length t)) (drop from t) ≡ v → answer g v ≡ refused c q → (c ≡ 11) × (v ≡ Faulty q)
+      by :
+          (v : Scanned) (g : File)
+          → scan (start (slices a u p)) (min from (length t)) (drop from t) ≡ v
+          → answer g v ≡ refused c q
+          → (c ≡ 11) × (v ≡ Faulty q)
       by (Whole n) g x e = let z : _≡_ {A = ℕ} 0 1 = cc in absurd (omega arith)
       by (Faulty n) g x e = let h : 11 ≡ c = cc in let i : n ≡ q = cc in (sym h, ap (λ (y : ℕ). Faulty y) i)
       by (Full n) g x e = absurd (never-full (min from (length t)) from n x)
 
   -- the check from a file's end on is the check of what is left
-  goes-on : (n from j : ℕ) → n ≡ from + j → n < length t → goesOn n (drop j (drop from t)) ≡ judge (start free) (min n (length t)) (drop n t)
+  goes-on :
+      (n from j : ℕ)
+      → n ≡ from + j
+      → n < length t
+      → goesOn n (drop j (drop from t)) ≡ judge (start free) (min n (length t)) (drop n t)
   goes-on n from j e h =
       let m : n ≡ min n (length t) = omega arith in
       let d : drop j (drop from t) ≡ drop n t = drop-drop j from t ∙ ap (λ (x : ℕ). drop x t) (sym e) in

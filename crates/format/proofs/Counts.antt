@@ -178,7 +178,10 @@ module _ (room : ℕ → ℕ) where
   held-full n b (value p k f) a = refl
 
   -- the tests of one byte
-  same-turn : (k : ℕ) (x y : Scanned) (o f : Bool) → (f ≡ false → x ≡ y) → cond o (Whole k) (cond f (Full k) x) ≡ cond o (Whole k) (cond f (Full k) y)
+  same-turn :
+      (k : ℕ) (x y : Scanned) (o f : Bool)
+      → (f ≡ false → x ≡ y)
+      → cond o (Whole k) (cond f (Full k) x) ≡ cond o (Whole k) (cond f (Full k) y)
   same-turn k x y true f e = refl
   same-turn k x y false true e = refl
   same-turn k x y false false e = e refl
@@ -186,14 +189,17 @@ module _ (room : ℕ → ℕ) where
   counts-from : (s : State) → Holds Unlimited s → (n k : ℕ) (t : List ℕ) → scan (with (holding n) s) k t ≡ scanBy room s n k t
   unfolding scan scanBy
   counts-from s a n k [] = rw (same-final n s)
-  counts-from s a n k (b ∷ t) = rw (same-final n s, held-full n b s a) (same-turn k _ _ (endsBefore s b) (full room s n b) (λ e. on e (held-step n b s a e) (counts-from (step s b) (keep-step Unlimited unlimited-kept b s a) (counted s n b) (k + 1) t)))
+  counts-from s a n k (b ∷ t) =
+      rw (same-final n s, held-full n b s a)
+      (same-turn k _ _ (endsBefore s b) (full room s n b)
+      (λ e. on (held-step n b s a e)
+      (counts-from (step s b) (keep-step Unlimited unlimited-kept b s a) (counted s n b) (k + 1) t)))
     where
-      on : full room s n b ≡ false
-          → step (with (holding n) s) b ≡ with (holding (counted s n b)) (step s b)
+      on : step (with (holding n) s) b ≡ with (holding (counted s n b)) (step s b)
           → scan (with (holding (counted s n b)) (step s b)) (k + 1) t ≡ scanBy room (step s b) (counted s n b) (k + 1) t
           → cond (isStuck (step (with (holding n) s) b)) (Faulty k) (scan (step (with (holding n) s) b) (k + 1) t)
           ≡ cond (isStuck (step s b)) (Faulty k) (scanBy room (step s b) (counted s n b) (k + 1) t)
-      on e h r = rw (h, with-stuck (holding (counted s n b)) (step s b), r)
+      on h r = rw (h, with-stuck (holding (counted s n b)) (step s b), r)
 
 -- READING'S VERDICT BY A COUNT
 held-start : (a u p : ℕ) → with (holding (capacity a u p) 0) (start free) ≡ start (slices a u p)
@@ -208,6 +214,8 @@ pub counts : (a u p k : ℕ) (t : List ℕ) → scan (start (slices a u p)) k t 
 counts a u p k t =
     ap (λ (s : State). scan s k t) (sym (held-start a u p)) ∙ counts-from (capacity a u p) (start free) unlimited-start 0 k t
 
-pub counts-at : (a u p : ℕ) (t : List ℕ) (from : ℕ) → scanAt (slices a u p) t from ≡ scanBy (capacity a u p) (start free) 0 (min from (length t)) (drop from t)
+pub counts-at :
+    (a u p : ℕ) (t : List ℕ) (from : ℕ)
+    → scanAt (slices a u p) t from ≡ scanBy (capacity a u p) (start free) 0 (min from (length t)) (drop from t)
 unfolding scanAt
 counts-at a u p t from = counts a u p (min from (length t)) (drop from t)

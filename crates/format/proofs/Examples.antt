@@ -51,7 +51,9 @@ abbrev check : String → ℤ
 check s = checkOf (bytes s)
 
 -- accepted: one file, two on end, and a file of one month line and no others
-accepts : map check (input ∷ (input ++ input) ∷ "month,ons\n-1,0\nagent,pb,pv,afs,rfs,pa,ret\nuser,kind,ret\nat,tp,tf,dp,df,mp,mf,vp,vf\n" ∷ [])
+accepts :
+    map check
+    (input ∷ (input ++ input) ∷ "month,ons\n-1,0\nagent,pb,pv,afs,rfs,pa,ret\nuser,kind,ret\nat,tp,tf,dp,df,mp,mf,vp,vf\n" ∷ [])
     ≡ negsuc 0 ∷ negsuc 0 ∷ negsuc 0 ∷ []
 unfolding checkOf judge onward format more line inValue enter step
 accepts = refl
@@ -73,7 +75,14 @@ unfolding checkOf judge onward format more line inValue enter step
 wrong-lines = refl
 
 -- where the text ends too soon, its length: nothing at all, no LF after the last line, no point names; and what is no `m` after a file
-wrong-ends : map check ("" ∷ "month,ons\n1,1\nagent,pb,pv,afs,rfs,pa,ret\nuser,kind,ret\nat,tp,tf,dp,df,mp,mf,vp,vf" ∷ (input ++ "1") ∷ (input ++ "\n") ∷ (input ++ "month") ∷ [])
+wrong-ends :
+    map check
+    (""
+    ∷ "month,ons\n1,1\nagent,pb,pv,afs,rfs,pa,ret\nuser,kind,ret\nat,tp,tf,dp,df,mp,mf,vp,vf"
+    ∷ (input ++ "1")
+    ∷ (input ++ "\n")
+    ∷ (input ++ "month")
+    ∷ [])
     ≡ pos 0 ∷ pos 81 ∷ pos 185 ∷ pos 184 ∷ pos 189 ∷ []
 unfolding checkOf judge onward format more line inValue enter step
 wrong-ends = refl

@@ -22,7 +22,11 @@ use Rattle.format.proofs.Values.{few-lines}
 use Rattle.format.proofs.Answers.{reading-is}
 
 -- no block has more lines than the text has bytes
-few : (n : ℕ) (bs : List Block) (w : List (List (List ℤ))) → BlocksFit bs w → length (blocksText bs w) ≤ n → All (λ (ls : List (List ℤ)). length ls ≤ n) w
+few :
+    (n : ℕ) (bs : List Block) (w : List (List (List ℤ)))
+    → BlocksFit bs w
+    → length (blocksText bs w) ≤ n
+    → All (λ (ls : List (List ℤ)). length ls ≤ n) w
 unfolding blocksText
 few n [] [] x h = tt
 few n [] (ls ∷ w) x h = absurd x
@@ -76,7 +80,13 @@ module _ (a u p : ℕ) (t : List ℕ) where
     left : drop (from + length (fileText f)) t ≡ rest
     left = sym (drop-drop (length (fileText f)) from t) ∙ ap (drop (length (fileText f))) e ∙ drop-append-seam (fileText f) rest
 
-    is-read : length t ≤ a → length t ≤ u → length t ≤ p → Fits free f → Follows rest → reading (slices a u p) t from ≡ accepted f (from + length (fileText f))
+    is-read :
+        length t ≤ a
+        → length t ≤ u
+        → length t ≤ p
+        → Fits free f
+        → Follows rest
+        → reading (slices a u p) t from ≡ accepted f (from + length (fileText f))
     is-read ha hu hp x h =
         reading-is a u p t from (accepted f (from + length (fileText f))) .1
         (record {
@@ -103,8 +113,11 @@ module _ (a u p : ℕ) (t : List ℕ) where
   back : (from : ℕ) → ReadsOn a u p t from → Files (drop from t)
   back from (last _ f e) =
       let r = was-read from (length t) f e in
-      subst Files (sym (append-nil (fileText f)) ∙ ap (λ (x : List ℕ). fileText f ++ x) (sym (empty (r .rest) (omega (arith, in-text from f (r .rest) (r .is), here from f (r .rest) (r .is), r .next-is)))) ∙ sym (r .is))
-      (G.last f (takes-free a u p f (r .fits)))
+      let i = in-text from f (r .rest) (r .is) in
+      let h = here from f (r .rest) (r .is) in
+      let n : length (r .rest) ≡ 0 = omega (arith, r .next-is) in
+      let q : drop from t ≡ fileText f = r .is ∙ ap (λ (x : List ℕ). fileText f ++ x) (empty (r .rest) n) ∙ append-nil (fileText f) in
+      subst Files (sym q) (G.last f (takes-free a u p f (r .fits)))
     where
       empty : (xs : List ℕ) → length xs ≡ 0 → xs ≡ []
       empty [] h = refl

@@ -93,7 +93,10 @@ pub record Filed (r : Rooms) (w : List (List (List ℤ))) : Type 0 where
   pub fits : Fits r file
   pub is : rows file ≡ w
 
-two-values : (l : List ℤ) (ag us ps : List (List ℤ)) (r : Rooms) → BlocksFit (blocks r) ((l ∷ []) ∷ ag ∷ us ∷ ps ∷ []) → Filed r ((l ∷ []) ∷ ag ∷ us ∷ ps ∷ [])
+two-values :
+    (l : List ℤ) (ag us ps : List (List ℤ)) (r : Rooms)
+    → BlocksFit (blocks r) ((l ∷ []) ∷ ag ∷ us ∷ ps ∷ [])
+    → Filed r ((l ∷ []) ∷ ag ∷ us ∷ ps ∷ [])
 two-values [] ag us ps r a = absurd (omega (arith, a .0 .0 .count))
 two-values (y ∷ []) ag us ps r a = absurd (omega (arith, a .0 .0 .count))
 two-values (y ∷ (o ∷ [])) ag us ps r a =

@@ -149,7 +149,11 @@ module _ (b : ℕ) (t : List ℕ) where
   unfolding inValue
   back-digits n k g h = by (isDigit b) refl h
     where
-      by : (q : Bool) → isDigit b ≡ q → Tail (cond q (cond (ltb n 18) (value (digits (n + 1)) k g) stuck) (ends k g b)) t → InLine (digits n) k g (b ∷ t)
+      by :
+          (q : Bool)
+          → isDigit b ≡ q
+          → Tail (cond q (cond (ltb n 18) (value (digits (n + 1)) k g) stuck) (ends k g b)) t
+          → InLine (digits n) k g (b ∷ t)
       by true e i =
           let c = passed (ltb n 18) (value (digits (n + 1)) k g) t i in
           let l = ltb-true n 18 (c .0) in
@@ -215,7 +219,12 @@ no-more-lines n c k t f a = record { said = [] ∷ a .said; spells = (tt, c, a .
 
 module _ (b : ℕ) (t : List ℕ) where
   -- a line begins, or it does not
-  begun : (q : Bool) (x y : State) (g : List Item) → (Tail x t → After g (b ∷ t)) → (Tail y t → After g (b ∷ t)) → Tail (cond q x y) t → After g (b ∷ t)
+  begun :
+      (q : Bool) (x y : State) (g : List Item)
+      → (Tail x t → After g (b ∷ t))
+      → (Tail y t → After g (b ∷ t))
+      → Tail (cond q x y) t
+      → After g (b ∷ t)
   begun true x y g f h a = f a
   begun false x y g f h a = h a
 

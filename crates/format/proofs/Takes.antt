@@ -52,7 +52,11 @@ module _ (k : ℕ) (g : List Item) where
     unfolding run step inValue
     after-digits n = rw e
 
-    digits-go : (n : ℕ) (ds : List ℕ) → All Digit ds → n + length ds ≤ 18 → run step (value (digits n) k g) (ds ++ (b ∷ x)) ≡ run step (ends k g b) x
+    digits-go :
+        (n : ℕ) (ds : List ℕ)
+        → All Digit ds
+        → n + length ds ≤ 18
+        → run step (value (digits n) k g) (ds ++ (b ∷ x)) ≡ run step (ends k g b) x
     digits-go n [] d h = after-digits n
     digits-go n (c ∷ ds) d h =
         on c (value (digits n) k g) (value (digits (n + 1)) k g) (ds ++ (b ∷ x)) (digit-step n c (d .0) (omega arith))
@@ -72,7 +76,11 @@ module _ (k : ℕ) (g : List Item) where
         ∙ digits-go 1 (c .rest) (c .digits) (omega (arith, c .short)))
 
 module _ (g : List Item) where
-  values-go : (z : ℤ) (zs : List ℤ) (x : List ℕ) → Small z → All Small zs → run step (value fresh (length zs) g) (text z ++ (more (map text zs) ++ x)) ≡ run step (at g) x
+  values-go :
+      (z : ℤ) (zs : List ℤ) (x : List ℕ)
+      → Small z
+      → All Small zs
+      → run step (value fresh (length zs) g) (text z ++ (more (map text zs) ++ x)) ≡ run step (at g) x
   unfolding more
   values-go z [] x s a = value-goes 0 g lf x refl (text z) (value-of z s)
   values-go z (y ∷ ys) x s a =
@@ -139,7 +147,10 @@ module _ (k : ℕ) (g : List Item) where
       ∙ ap (λ (u : List ℕ). run step (value fresh k g') u) (sym (b .is))
       ∙ line-goes g' k l x f
 
-  any-lines : (ls : List (List ℤ)) (x : List ℕ) → All (LineFits (suc k)) ls → run step (at (lines any k ∷ g)) (linesText ls ++ x) ≡ run step (at (lines any k ∷ g)) x
+  any-lines :
+      (ls : List (List ℤ)) (x : List ℕ)
+      → All (LineFits (suc k)) ls
+      → run step (at (lines any k ∷ g)) (linesText ls ++ x) ≡ run step (at (lines any k ∷ g)) x
   unfolding linesText
   any-lines [] x a = refl
   any-lines (l ∷ ls) x a =
@@ -169,7 +180,11 @@ module _ (k : ℕ) where
   past-any (byte c ∷ f) w q h = subst (λ (s : State). From s (spell f w)) (hit c f ∙ sym (skip-any c f q k)) h
   past-any (lines n j ∷ f) w q h = absurd q
 
-  past-upTo : (n : ℕ) (f : List Item) (w : List (List (List ℤ))) → Quiet f → From (at f) (spell f w) → From (at (lines (upTo n) k ∷ f)) (spell f w)
+  past-upTo :
+      (n : ℕ) (f : List Item) (w : List (List (List ℤ)))
+      → Quiet f
+      → From (at f) (spell f w)
+      → From (at (lines (upTo n) k ∷ f)) (spell f w)
   unfolding run
   past-upTo n [] w q h = refl
   past-upTo n (byte c ∷ f) w q h = subst (λ (s : State). From s (spell f w)) (hit c f ∙ sym (skip-upTo c f q n k)) h

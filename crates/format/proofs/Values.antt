@@ -93,7 +93,10 @@ module _ (b : ℕ) (x : List ℕ) (e : isDigit b ≡ false) where
 abbrev joined : Got ℤ → Got (List ℤ) → Got (List ℤ)
 joined v r = record { got = v .got ∷ r .got; left = r .left }
 
-values-read : (z : ℤ) (zs : List ℤ) (x : List ℕ) → All Small (z ∷ zs) → readLine (suc (length zs)) (lineText (z ∷ zs) ++ x) ≡ record { got = z ∷ zs; left = x }
+values-read :
+    (z : ℤ) (zs : List ℤ) (x : List ℕ)
+    → All Small (z ∷ zs)
+    → readLine (suc (length zs)) (lineText (z ∷ zs) ++ x) ≡ record { got = z ∷ zs; left = x }
 unfolding line more readLine
 values-read z [] x a =
     ap (λ (v : Got ℤ). joined v (readLine 0 (drop 1 (v .left))))
@@ -117,7 +120,10 @@ abbrev rowed : Got (List ℤ) → Got (List (List ℤ)) → Got (List (List ℤ)
 rowed l r = record { got = l .got ∷ r .got; left = r .left }
 
 module _ (c : ℕ) where
-  begun : (k : ℕ) (t : List ℕ) → lineHere t ≡ true → readLines (suc k) (suc c) t ≡ rowed (readLine (suc c) t) (readLines k (suc c) (readLine (suc c) t .left))
+  begun :
+      (k : ℕ) (t : List ℕ)
+      → lineHere t ≡ true
+      → readLines (suc k) (suc c) t ≡ rowed (readLine (suc c) t) (readLines k (suc c) (readLine (suc c) t .left))
   unfolding readLines
   begun k t e = rw e
 
@@ -163,7 +169,12 @@ no-line : (ns y : List ℕ) → Named ns → lineHere (ns ++ y) ≡ false
 no-line [] y n = absurd n
 no-line (c ∷ ns) y n = n
 
-quiet-next : (bs : List Block) (w : List (List (List ℤ))) (u : List ℕ) → All Headed bs → BlocksFit bs w → lineHere u ≡ false → lineHere (blocksText bs w ++ u) ≡ false
+quiet-next :
+    (bs : List Block) (w : List (List (List ℤ))) (u : List ℕ)
+    → All Headed bs
+    → BlocksFit bs w
+    → lineHere u ≡ false
+    → lineHere (blocksText bs w ++ u) ≡ false
 unfolding blocksText
 quiet-next [] w u h a e = e
 quiet-next (b ∷ bs) [] u h a e = absurd a
@@ -180,18 +191,21 @@ blocks-read [] [] u h a e = refl
 blocks-read [] (ls ∷ w) u h a e = absurd a
 blocks-read (b ∷ bs) [] u h a e = absurd a
 blocks-read (b ∷ bs) (ls ∷ w) u h a e =
-    ap (λ (t : List ℕ). blocked (readLines (most (b .count) t) (columns b) t) (readBlocks bs (readLines (most (b .count) t) (columns b) t .left)))
+    let x : List ℕ = blocksText bs w ++ u in
+    let k : ℕ = most (b .count) (linesText ls ++ x) in
+    let l : readLines k (columns b) (linesText ls ++ x) ≡ record { got = ls; left = x } =
+    subst (λ (c : ℕ). All (LineFits c) ls → readLines k c (linesText ls ++ x) ≡ record { got = ls; left = x }) (h .0 .column)
+    (λ fit. lines-read (columns b - 1) k ls x fit (enough (b .count) ls x (a .1)) (quiet-next bs w u (h .1) (a .2) e))
+    (a .0) in
+    ap (λ (t : List ℕ). block (readLines (most (b .count) t) (columns b) t))
     (ap (drop (length (namesText b))) (append-assoc (namesText b) (linesText ls ++ blocksText bs w) u)
     ∙ drop-append-seam (namesText b) ((linesText ls ++ blocksText bs w) ++ u)
     ∙ append-assoc (linesText ls) (blocksText bs w) u)
-    ∙ ap (λ (g : Got (List (List ℤ))). blocked g (readBlocks bs (g .left)))
-    (subst (λ (c : ℕ). All (LineFits c) ls → readLines (most (b .count) (linesText ls ++ (blocksText bs w ++ u))) c (linesText ls ++ (blocksText bs w ++ u)) ≡ record { got = ls; left = blocksText bs w ++ u })
-    (h .0 .column)
-    (λ fit. lines-read (columns b - 1) (most (b .count) (linesText ls ++ (blocksText bs w ++ u))) ls (blocksText bs w ++ u) fit
-    (enough (b .count) ls (blocksText bs w ++ u) (a .1))
-    (quiet-next bs w u (h .1) (a .2) e))
-    (a .0))
-    ∙ ap (blocked (record { got = ls; left = blocksText bs w ++ u })) (blocks-read bs w u (h .1) (a .2) e)
+    ∙ ap block l
+    ∙ ap (blocked (record { got = ls; left = x })) (blocks-read bs w u (h .1) (a .2) e)
+  where
+    block : Got (List (List ℤ)) → Got (List (List (List ℤ)))
+    block g = blocked g (readBlocks bs (g .left))
 
 all-headed : (r : Rooms) → All Headed (blocks r)
 unfolding line more

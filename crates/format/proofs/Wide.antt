@@ -170,7 +170,10 @@ module _ (s : State) (b : ℕ) (t : List ℕ) (k : ℕ) where
   unfolding scan
   wide-over e = rw (wide-final s, e)
 
-  wide-goes : endsBefore s b ≡ false → tooMany s b ≡ false → scan (wide s) k (b ∷ t) ≡ cond (isStuck (step s b)) (Faulty k) (scan (wide (step s b)) (k + 1) t)
+  wide-goes :
+      endsBefore s b ≡ false
+      → tooMany s b ≡ false
+      → scan (wide s) k (b ∷ t) ≡ cond (isStuck (step s b)) (Faulty k) (scan (wide (step s b)) (k + 1) t)
   unfolding scan
   wide-goes o f = rw (wide-final s, o, wide-few s b, wide-step b s f, with-stuck widen (step s b))
 
@@ -205,7 +208,13 @@ module _ (s : State) (b : ℕ) (t : List ℕ) (k : ℕ) where
         };
       }
 
-  wide-lift : endsBefore s b ≡ false → tooMany s b ≡ false → isStuck (step s b) ≡ false → (v : Scanned) → Wider (step s b) t (k + 1) v → Wider s (b ∷ t) k v
+  wide-lift :
+      endsBefore s b ≡ false
+      → tooMany s b ≡ false
+      → isStuck (step s b) ≡ false
+      → (v : Scanned)
+      → Wider (step s b) t (k + 1) v
+      → Wider s (b ∷ t) k v
   wide-lift o f e (Whole n) w = wide-goes o f ∙ rw e w
   wide-lift o f e (Faulty n) w = wide-goes o f ∙ rw e w
   wide-lift o f e (Full p) w = wide-later o f p w

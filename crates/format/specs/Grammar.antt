@@ -33,7 +33,10 @@ line-more v w vs = refl
 abbrev pub namesText : Block → List ℕ
 namesText b = line (map bytes (b .names))
 
-pub the-names : (r : Rooms) → map namesText (blocks r) ≡ map bytes ("month,ons\n" ∷ "agent,pb,pv,afs,rfs,pa,ret\n" ∷ "user,kind,ret\n" ∷ "at,tp,tf,dp,df,mp,mf,vp,vf\n" ∷ [])
+pub the-names :
+    (r : Rooms)
+    → map namesText (blocks r)
+    ≡ map bytes ("month,ons\n" ∷ "agent,pb,pv,afs,rfs,pa,ret\n" ∷ "user,kind,ret\n" ∷ "at,tp,tf,dp,df,mp,mf,vp,vf\n" ∷ [])
 unfolding line more
 the-names r = refl
 
