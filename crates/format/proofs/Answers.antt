@@ -18,10 +18,10 @@ use Rattle.format.specs.Reading.{scan, scanAt, Answer, accepted, refused
 use Rattle.format.specs.declared.Scanned.{Scanned}
 use Rattle.format.specs.declared.Scanned.the-variants.{Whole, Faulty, Full}
 use Rattle.format.proofs.Live.{sound-format}
-use Rattle.format.proofs.Places.{one-place, no-place, same-place}
+use Rattle.format.proofs.Places.{Later, one-place, no-place, same-place}
 use Rattle.format.proofs.Sound.{sound}
 use Rattle.format.proofs.Values.{values-back}
-use Rattle.format.proofs.Scans.{Rests, rests-stands, Later, Claim, claim}
+use Rattle.format.proofs.Scans.{Rests, rests-stands, Claim, claim}
 use Rattle.format.proofs.Wide.{wide, wide-start, Longer, Wider, wider}
 
 -- a file that the slices do not take has more lines of a kind than its slice takes

@@ -20,10 +20,9 @@ use Rattle.format.specs.Reading.{tooMany, scan, scanAt, Answer, accepted
 use Rattle.format.specs.Counting.{many, after, capacity, full, counted, scanBy}
 use Rattle.format.specs.declared.Scanned.{Scanned}
 use Rattle.format.specs.declared.Scanned.the-variants.{Whole, Faulty, Full}
-use Rattle.format.proofs.Live.{not-both, sound-format}
+use Rattle.format.proofs.Live.{not-both, both, sound-format}
 use Rattle.format.proofs.Accepts.{within, beyond}
 use Rattle.format.proofs.FileCheck.{check-within}
-use Rattle.format.proofs.Scans.{both}
 use Rattle.format.proofs.Wide.{wide, wide-start, Wider, wider}
 use Rattle.format.proofs.Counts.{counts}
 use Rattle.format.proofs.FileByFile.{next-within, checked-by-reading}

@@ -13,7 +13,7 @@ use Rattle.format.specs.Grammar.{Files}
 use Rattle.format.specs.Machine.{State, stuck, isStuck, step, final, endsBefore, start, onward, run, Accepted, Verdict, passes, fails, judge, number, checkOf}
 use Rattle.format.specs.Language.{Begins, Place, Judged, Checked}
 use Rattle.format.proofs.Live.{not-both, Sound, Good, holds-cond, good-step, sound-format, complete, live, is-stuck}
-use Rattle.format.proofs.Places.{here-end, here-byte, later, one-place, no-place, same-place}
+use Rattle.format.proofs.Places.{Later, here-end, here-byte, later, one-place, no-place, same-place}
 use Rattle.format.proofs.Accepts.{On, joined, nothing, accepts}
 
 -- what finishes a file finishes files on end
@@ -33,12 +33,7 @@ unfolding run onward step
 no-end [] e = not-both false refl e
 no-end (b ∷ t) e = no-end t e
 
--- a verdict on what follows, counted from k
-record Later (L : List ℕ → Type 0) (t : List ℕ) (k p : ℕ) : Type 0 where
-  past : ℕ
-  here : p ≡ k + past
-  place : Place L t past
-
+-- what a verdict says, counted from k
 abbrev Claim : (List ℕ → Type 0) → List ℕ → ℕ → Verdict → Type 0
 Claim L t k passes = L t
 Claim L t k (fails p) = Later L t k p

@@ -1,7 +1,7 @@
 -- EVERY STATE of the machine but the stuck one CAN BE FINISHED: some text leads from it to the end of a file. Assumes nothing.
 use Prim.Native.Nat.{ℕ, zero, suc, _+_}
 use mathlib.Core.Path.{_≡_, refl, ap, sym, _∙_, subst}
-use mathlib.Core.Bool.{Bool, true, false, cond}
+use mathlib.Core.Bool.{Bool, true, false, cond, _&&_}
 use mathlib.Core.List.{List, [], _∷_, _++_}
 use native.Mathlib.Omega.{arith}
 use lib.Dec.{ltb, eqb}
@@ -14,6 +14,10 @@ use Rattle.format.specs.Machine.{Item, byte, lines, format, Part, fresh,
 -- true is not false
 pub not-both : {X : Type 0} (t : Bool) → t ≡ false → t ≡ true → X
 not-both t p q = let z : _≡_ {A = ℕ} 0 1 = cc in absurd (omega arith)
+
+pub both : (p q : Bool) → (p && q) ≡ true → (p ≡ true) × (q ≡ true)
+both true q e = (refl, e)
+both false q e = not-both false refl e
 
 -- after lines of values comes the end, or a byte that begins no line of values
 abbrev pub Quiet : List Item → Type 0

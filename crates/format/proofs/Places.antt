@@ -14,6 +14,12 @@ use Rattle.format.specs.Language.{Begins, Place}
 abbrev pub Past : (List ℕ → Type 0) → ℕ → List ℕ → Type 0
 Past L b t = L (b ∷ t)
 
+-- a place, counted from k
+pub record Later (L : List ℕ → Type 0) (t : List ℕ) (k p : ℕ) : Type 0 where
+  pub past : ℕ
+  pub here : p ≡ k + past
+  pub place : Place L t past
+
 module _ (L : List ℕ → Type 0) where
   -- the place is here: at the text's end, or at a byte
   pub here-end : Begins L [] → (L [] → ⊥) → Place L [] 0

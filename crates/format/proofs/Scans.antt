@@ -3,7 +3,7 @@
 use Prim.Native.Nat.{ℕ, zero, suc, _+_}
 use mathlib.Core.Path.{_≡_, refl, ap, sym, _∙_, subst}
 use mathlib.Core.Logic.{_↔_}
-use mathlib.Core.Bool.{Bool, true, false, cond, _&&_}
+use mathlib.Core.Bool.{Bool, true, false, cond}
 use mathlib.Core.List.{List, [], _∷_, _++_, append-nil}
 use native.Mathlib.Omega.{arith}
 use lib.ListN.{length}
@@ -12,12 +12,12 @@ use Rattle.format.specs.Bytes.{m, startsLine}
 use Rattle.format.specs.Blocks.{one, any, upTo, Rooms}
 use Rattle.format.specs.Grammar.{fileText}
 use Rattle.format.specs.Machine.{Item, byte, lines, State, stuck, at, value, isStuck, enter, step, final, endsBefore, start, run, From}
-use Rattle.format.specs.Language.{Begins, Place, Follows, Stands}
+use Rattle.format.specs.Language.{Begins, Follows, Stands}
 use Rattle.format.specs.Reading.{noRoom, tooMany, scan}
 use Rattle.format.specs.declared.Scanned.{Scanned}
 use Rattle.format.specs.declared.Scanned.the-variants.{Whole, Faulty, Full}
-use Rattle.format.proofs.Live.{not-both, Good, good-step, complete, live, dead, is-stuck}
-use Rattle.format.proofs.Places.{Past, here-end, here-byte, later, same-place}
+use Rattle.format.proofs.Live.{not-both, both, Good, good-step, complete, live, dead, is-stuck}
+use Rattle.format.proofs.Places.{Past, Later, here-end, here-byte, later, same-place}
 use Rattle.format.proofs.Accepts.{ends-final, ends-m}
 use Rattle.format.proofs.Sound.{sound}
 use Rattle.format.proofs.Takes.{takes}
@@ -73,10 +73,6 @@ no-room-stuck (lines any k ∷ f) b e s = not-both false refl e
 no-room-stuck (lines (upTo zero) k ∷ f) b e s = rw s
 no-room-stuck (lines (upTo (suc n)) k ∷ f) b e s = let z : suc n ≡ 0 = eqb-true (suc n) 0 e in absurd (omega arith)
 
-pub both : (p q : Bool) → (p && q) ≡ true → (p ≡ true) × (q ≡ true)
-both true q e = (refl, e)
-both false q e = not-both false refl e
-
 too-many-stuck : (s : State) (b : ℕ) → tooMany s b ≡ true → isStuck (step s b) ≡ true
 unfolding step
 too-many-stuck stuck b e = refl
@@ -119,11 +115,6 @@ module _ (s : State) (b : ℕ) (n : endsBefore s b ≡ false) where
 pub record Ended (s : State) (t : List ℕ) (k n : ℕ) : Type 0 where
   pub rests : Rests s t
   pub here : n ≡ k + length (rests .first)
-
-pub record Later (L : List ℕ → Type 0) (t : List ℕ) (k p : ℕ) : Type 0 where
-  pub past : ℕ
-  pub here : p ≡ k + past
-  pub place : Place L t past
 
 abbrev pub Claim : State → List ℕ → ℕ → Scanned → Type 0
 Claim s t k (Whole n) = Ended s t k n

@@ -1,7 +1,7 @@
 -- SOUNDNESS: a text that leads the machine from the start to the end of a file is a file's text. Assumes nothing.
 use Prim.Native.Nat.{ℕ, zero, suc, _+_, _-_, _≤_, _<_, zero-le, suc-le-suc}
 use mathlib.Core.Path.{_≡_, refl, ap, sym, _∙_}
-use mathlib.Core.Bool.{Bool, true, false, cond, _&&_}
+use mathlib.Core.Bool.{Bool, true, false, cond}
 use mathlib.Core.List.{List, [], _∷_, _++_, map, append-assoc}
 use native.Mathlib.Omega.{arith}
 use lib.Dec.{leb, ltb, eqb}
@@ -16,7 +16,7 @@ use Rattle.format.specs.Decimal.{text, Small, All, Numeral, Value}
 use Rattle.format.specs.Grammar.{more, line, lineText, linesText, LineFits, Counted, File, fileText, Fits}
 use Rattle.format.specs.Machine.{Item, byte, lines, format, Part, fresh, signed, nought, digits, State, stuck, at, value, lead, ends, inValue, enter, step, ended, final, start, run, From}
 use Rattle.format.proofs.Decimals.{text-of}
-use Rattle.format.proofs.Live.{not-both}
+use Rattle.format.proofs.Live.{not-both, both}
 use Rattle.format.proofs.Laid.{spell, Spells, file-text, spelt}
 
 -- the items still to come, written out
@@ -53,10 +53,6 @@ Tail (value p k g) t = InLine p k g t
 passed : (q : Bool) (s : State) (t : List ℕ) → Tail (cond q s stuck) t → (q ≡ true) × Tail s t
 passed true s t h = (refl, h)
 passed false s t h = absurd h
-
-both : (p q : Bool) → (p && q) ≡ true → (p ≡ true) × (q ≡ true)
-both true q e = (refl, e)
-both false q e = not-both false refl e
 
 lead-in : (b : ℕ) → isLead b ≡ true → (49 ≤ b) × (b < 58)
 lead-in b e = let c = both (leb 49 b) (ltb b 58) e in (leb-true 49 b (c .0), ltb-true b 58 (c .1))

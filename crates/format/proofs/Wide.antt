@@ -17,9 +17,9 @@ use Rattle.format.specs.Language.{Begins}
 use Rattle.format.specs.Reading.{noRoom, tooMany, scan}
 use Rattle.format.specs.declared.Scanned.{Scanned}
 use Rattle.format.specs.declared.Scanned.the-variants.{Whole, Faulty, Full}
-use Rattle.format.proofs.Live.{not-both, Quiet, Sound, Good, good-step}
+use Rattle.format.proofs.Live.{not-both, both, Quiet, Sound, Good, good-step}
 use Rattle.format.proofs.Changed.{with, with-final, with-stuck, with-cond, with-value}
-use Rattle.format.proofs.Scans.{Rests, finished, both, past-step}
+use Rattle.format.proofs.Scans.{Rests, finished, past-step}
 
 -- the same with room for any count
 abbrev pub more-room : Count → Count
