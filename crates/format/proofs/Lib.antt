@@ -1,0 +1,14 @@
+pub mod Decimals
+pub mod Live
+pub mod Laid
+pub mod Sound
+pub mod Takes
+pub mod Places
+pub mod Accepts
+pub mod FileCheck
+pub mod Values
+pub mod Scans
+pub mod Wide
+pub mod Answers
+pub mod FileByFile
+pub mod Examples
