@@ -2,13 +2,13 @@
 use Prim.Native.Nat.{ℕ, zero, suc}
 use mathlib.Core.Path.{_≡_, refl, ap, sym, _∙_, subst}
 use mathlib.Core.Logic.{_↔_, _⊎_, inl, inr}
-use mathlib.Core.Bool.{Bool, true, false, cond, _&&_}
-use mathlib.Core.List.{List, [], _∷_, _++_, append-assoc, append-nil}
+use mathlib.Core.Bool.{Bool, true, false, _&&_}
+use mathlib.Core.List.{List, [], _∷_, _++_, append-nil}
 use lib.Dec.{eqb}
-use borrow.Author.Tests.{eq-eqb, eqb-true}
+use borrow.Author.Tests.{eqb-true}
 use Rattle.format.specs.Bytes.{m}
-use Rattle.format.specs.Blocks.{Count, one, any, upTo, free}
-use Rattle.format.specs.Grammar.{more, line, blocksText, File, fileText, Fits, Files, last, then}
+use Rattle.format.specs.Blocks.{one, any, upTo, free}
+use Rattle.format.specs.Grammar.{more, line, blocksText, File, fileText, Files, last, then}
 use Rattle.format.specs.Machine.{Item, byte, lines, format, State, stuck, at, value, enter, step, ended, final, endsBefore, start, onward, run, From, Accepted}
 use Rattle.format.proofs.Live.{not-both, dead}
 use Rattle.format.proofs.Sound.{OneFile, sound}

@@ -1,9 +1,9 @@
 -- READING, in paper 01's words: its answer is what paper 01 says, and paper 01's words leave no other. Assumes nothing.
-use Prim.Native.Nat.{ℕ, zero, suc, _+_, _≤_, _<_, min}
+use Prim.Native.Nat.{ℕ, suc, _+_, _≤_, _<_, min}
 use mathlib.Core.Path.{_≡_, refl, ap, sym, _∙_, subst}
 use mathlib.Core.Logic.{_↔_}
 use mathlib.Core.Bool.{true}
-use mathlib.Core.List.{List, [], _∷_, _++_}
+use mathlib.Core.List.{List, _++_}
 use native.Mathlib.Omega.{arith}
 use native.Mathlib.Decide.{decLe}
 use lib.ListN.{length, take, drop, getD, length-append}
@@ -18,7 +18,7 @@ use Rattle.format.specs.Reading.{scan, scanAt, Answer, accepted, refused
 use Rattle.format.specs.declared.Scanned.{Scanned}
 use Rattle.format.specs.declared.Scanned.the-variants.{Whole, Faulty, Full}
 use Rattle.format.proofs.Live.{sound-format}
-use Rattle.format.proofs.Places.{one-place, no-place, same-begins, same-place}
+use Rattle.format.proofs.Places.{one-place, no-place, same-place}
 use Rattle.format.proofs.Sound.{sound}
 use Rattle.format.proofs.Values.{values-back}
 use Rattle.format.proofs.Scans.{Rests, rests-stands, Later, Claim, claim}

@@ -9,9 +9,8 @@ use native.Mathlib.Decide.{decLe}
 use native.Mathlib.Nat.{mul-add-div-right, mul-add-mod-self-right, div-eq-of-lt, mod-eq-of-lt, mod-lt, div-lt-iff-lt-mul, div-add-mod', pow-suc, pow-zero, suc-add, mul-le-mul-right, pow-le-pow-right}
 use lib.ListN.{length, length-append}
 use lib.IntN.{ℤ, pos, negsuc}
-use borrow.Author.Tests.{lt-ltb, le-ltb}
 use Rattle.format.specs.Bytes.{minus, Digit}
-use Rattle.format.specs.Decimal.{shown, text, Small, All, Numeral, Value, nought, plain, below}
+use Rattle.format.specs.Decimal.{shown, shown-one, shown-more, text, Small, All, Numeral, Value, nought, plain, below}
 
 -- the number that digits say, read on from a
 unfoldable pub said : ℕ → List ℕ → ℕ
@@ -23,15 +22,6 @@ all-snoc : {A : Type 0} (P : A → Type 0) (xs : List A) (x : A) → All P xs �
 all-snoc P [] x a p = (p, tt)
 all-snoc P (y ∷ xs) x a p = (a .0, all-snoc P xs x (a .1) p)
 
--- the clauses of `shown`
-one-digit : (k n : ℕ) → n < 10 → shown (suc k) n ≡ (48 + n) ∷ []
-unfolding shown
-one-digit k n h = rw (lt-ltb n 10 h)
-
-more-digits : (k n : ℕ) → 10 ≤ n → shown (suc k) n ≡ shown k (n / 10) ++ ((48 + n % 10) ∷ [])
-unfolding shown
-more-digits k n h = rw (le-ltb n 10 h)
-
 -- a digit more
 grow : (k a d : ℕ) → 1 ≤ a → Digit d → shown (suc k) (a * 10 + (d - 48)) ≡ shown k a ++ (d ∷ [])
 grow k a d h t =
@@ -41,7 +31,7 @@ grow k a d h t =
     let r' : (d - 48) % 10 ≡ d - 48 = mod-eq-of-lt (omega arith) in
     let e : (a * 10 + (d - 48)) / 10 ≡ a = omega arith in
     let f : 48 + (a * 10 + (d - 48)) % 10 ≡ d = omega arith in
-    more-digits k (a * 10 + (d - 48)) (omega arith)
+    shown-more k (a * 10 + (d - 48)) (omega arith)
     ∙ ap (λ (x : ℕ). shown k x ++ ((48 + (a * 10 + (d - 48)) % 10) ∷ [])) e
     ∙ ap (λ (x : ℕ). shown k a ++ (x ∷ [])) f
 
@@ -71,12 +61,12 @@ upper n h = let z : 0 < 10 = omega arith in omega (arith, div-add-mod' n 10, mod
 spare : (k j n : ℕ) → n < 10 ^ suc k → shown (suc k + j) n ≡ shown (suc k) n
 spare zero j n h =
     let s : n < 10 = omega (arith, pow-suc 10 0, pow-zero 10) in
-    ap (λ (x : ℕ). shown x n) (suc-add 0 j) ∙ one-digit (0 + j) n s ∙ sym (one-digit 0 n s)
+    ap (λ (x : ℕ). shown x n) (suc-add 0 j) ∙ shown-one (0 + j) n s ∙ sym (shown-one 0 n s)
 spare (suc k) j n h = ap (λ (x : ℕ). shown x n) (suc-add (suc k) j) ∙ by (spare k j (n / 10) (lower (suc k) n h)) (decLe 10 n)
   where
     by : shown (suc k + j) (n / 10) ≡ shown (suc k) (n / 10) → Dec (10 ≤ n) → shown (suc (suc k + j)) n ≡ shown (suc (suc k)) n
-    by r (no s) = one-digit (suc k + j) n (omega (arith, s)) ∙ sym (one-digit (suc k) n (omega (arith, s)))
-    by r (yes s) = more-digits (suc k + j) n s ∙ ap (λ (l : List ℕ). l ++ ((48 + n % 10) ∷ [])) r ∙ sym (more-digits (suc k) n s)
+    by r (no s) = shown-one (suc k + j) n (omega (arith, s)) ∙ sym (shown-one (suc k) n (omega (arith, s)))
+    by r (yes s) = shown-more (suc k + j) n s ∙ ap (λ (l : List ℕ). l ++ ((48 + n % 10) ∷ [])) r ∙ sym (shown-more (suc k) n s)
 
 -- how large
 ten-times : (s a x p : ℕ) → s < (x + 1) * p → x < a * 10 + 10 → s < (a + 1) * (p * 10)
@@ -120,7 +110,7 @@ printed t c =
     let v : suc l ≤ 18 = omega (arith, c .short) in
     let w : 10 ^ suc l ≤ 10 ^ 18 = pow-le-pow-right ten' v in
     let g : shown (l + 1) n ≡ shown 1 a ++ c .rest = grown (c .rest) 1 a one (c .digits) in
-    let o : shown 1 a ≡ (48 + a) ∷ [] = one-digit 0 a ten in
+    let o : shown 1 a ≡ (48 + a) ∷ [] = shown-one 0 a ten in
     let f : 48 + a ≡ c .first = omega (arith, c .low) in
     let s : shown (suc l + (17 - l)) n ≡ shown (suc l) n = spare l (17 - l) n small in
     let x : suc l + (17 - l) ≡ 18 = omega (arith, c .short) in
@@ -151,7 +141,7 @@ record Long (k : ℕ) (t : List ℕ) : Type 0 where
 
 digit-alone : (k n : ℕ) → n < 10 → 1 ≤ n → Long k (shown (suc k) n)
 digit-alone k n h o =
-    record { first = 48 + n; rest = []; is = one-digit k n h; low = omega arith; high = omega arith; digits = tt; short = zero-le }
+    record { first = 48 + n; rest = []; is = shown-one k n h; low = omega arith; high = omega arith; digits = tt; short = zero-le }
 
 longer : (k : ℕ) (t : List ℕ) (d : ℕ) → d < 10 → Long k t → Long (suc k) (t ++ ((48 + d) ∷ []))
 longer k t d h l =
@@ -171,7 +161,7 @@ prints (suc k) n h o u = by (λ s. prints k (n / 10) (lower (suc k) n h) (upper 
   where
     by : (10 ≤ n → Long k (shown (suc k) (n / 10))) → Dec (10 ≤ n) → Long (suc k) (shown (suc (suc k)) n)
     by r (no s) = digit-alone (suc k) n (omega (arith, s)) o
-    by r (yes s) = rw (more-digits (suc k) n s) (longer k _ (n % 10) (mod-lt n (omega arith)) (r s))
+    by r (yes s) = rw (shown-more (suc k) n s) (longer k _ (n % 10) (mod-lt n (omega arith)) (r s))
 
 pub numeral : (n : ℕ) → 1 ≤ n → n < 1_000_000_000_000_000_000 → Numeral (shown 18 n)
 numeral n o h =
@@ -222,13 +212,13 @@ said-shown : (k n : ℕ) → n < 10 ^ suc k → said 0 (shown (suc k) n) ≡ n
 unfolding said
 said-shown zero n h =
     let s : n < 10 = omega (arith, pow-suc 10 0, pow-zero 10) in
-    ap (λ (q : List ℕ). said 0 q) (one-digit 0 n s) ∙ omega arith
+    ap (λ (q : List ℕ). said 0 q) (shown-one 0 n s) ∙ omega arith
 said-shown (suc k) n h = by (said-shown k (n / 10) (lower (suc k) n h)) (decLe 10 n)
   where
     by : said 0 (shown (suc k) (n / 10)) ≡ n / 10 → Dec (10 ≤ n) → said 0 (shown (suc (suc k)) n) ≡ n
-    by r (no s) = ap (λ (q : List ℕ). said 0 q) (one-digit (suc k) n (omega (arith, s))) ∙ omega arith
+    by r (no s) = ap (λ (q : List ℕ). said 0 q) (shown-one (suc k) n (omega (arith, s))) ∙ omega arith
     by r (yes s) =
-        ap (λ (q : List ℕ). said 0 q) (more-digits (suc k) n s)
+        ap (λ (q : List ℕ). said 0 q) (shown-more (suc k) n s)
         ∙ said-snoc (shown (suc k) (n / 10)) 0 (48 + n % 10)
         ∙ omega (arith, r, div-add-mod' n 10)
 

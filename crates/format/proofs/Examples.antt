@@ -2,7 +2,7 @@
 use Prim.Native.Nat.{ℕ}
 use Prim.Native.String.{String, _++_}
 use mathlib.Core.Path.{_≡_, refl}
-use mathlib.Core.List.{List, [], _∷_, map}
+use mathlib.Core.List.{[], _∷_, map}
 use lib.IntN.{ℤ, pos, negsuc}
 use Rattle.format.specs.Bytes.{bytes}
 use Rattle.format.specs.Blocks.{slices}

@@ -1,6 +1,6 @@
 -- THE FILE CHECK AND READING AGREE: a text is one or more files on end exactly where reading, with slices as long as the text, accepts
 -- file after file to its end. Assumes nothing.
-use Prim.Native.Nat.{ℕ, zero, suc, _+_, _-_, _≤_, _<_, min}
+use Prim.Native.Nat.{ℕ, suc, _+_, _-_, _≤_, _<_, min}
 use mathlib.Core.Path.{_≡_, refl, ap, sym, _∙_, subst}
 use mathlib.Core.Logic.{_↔_}
 use mathlib.Core.List.{List, [], _∷_, _++_, append-nil}
@@ -114,6 +114,16 @@ module _ (a u p : ℕ) (t : List ℕ) where
       let n : next ≡ from + length (fileText f) = r .next-is ∙ ap (λ (k : ℕ). k + length (fileText f)) (here from f (r .rest) (r .is)) in
       let d : drop next t ≡ r .rest = ap (λ (k : ℕ). drop k t) n ∙ left from f (r .rest) (r .is) in
       subst Files (sym (r .is)) (G.then f (takes-free a u p f (r .fits)) (r .rest) (subst Files d (back next rs)))
+
+  -- the next position lies after this one, and within the text
+  pub next-within : (from next : ℕ) (f : File) → reading (slices a u p) t from ≡ accepted f next → (from < next) × (next ≤ length t)
+  next-within from next f e =
+      let r = was-read from next f e in
+      let n = r .next-is in
+      let i = in-text from f (r .rest) (r .is) in
+      let h = here from f (r .rest) (r .is) in
+      let b = some-bytes f in
+      (omega arith, omega arith)
 
   -- FILE AFTER FILE
   pub file-by-file : length t ≤ a → length t ≤ u → length t ≤ p → Files t ↔ ReadsOn a u p t 0

@@ -1,18 +1,18 @@
 -- REFUSAL 11 AND THE FILE CHECK, in paper 01's words and with no machine in the statements. Assumes nothing.
-use Prim.Native.Nat.{ℕ, zero, suc, _+_, _≤_, _<_}
-use mathlib.Core.Path.{_≡_, refl, ap, sym, _∙_, subst}
+use Prim.Native.Nat.{ℕ, suc, _+_, _≤_, _<_}
+use mathlib.Core.Path.{_≡_, refl, ap, _∙_, subst}
 use mathlib.Core.Logic.{_↔_}
 use mathlib.Core.Bool.{Bool, true, false, cond}
 use mathlib.Core.List.{List, [], _∷_, append-nil}
 use native.Mathlib.Omega.{arith}
 use lib.ListN.{length}
-use lib.IntN.{ℤ, pos, negsuc}
+use lib.IntN.{pos, negsuc}
 use borrow.Author.Tests.{lt-ltb, le-ltb}
 use Rattle.format.specs.Blocks.{free}
 use Rattle.format.specs.Grammar.{Files}
 use Rattle.format.specs.Machine.{State, stuck, isStuck, step, final, endsBefore, start, onward, run, Accepted, Verdict, passes, fails, judge, number, checkOf}
-use Rattle.format.specs.Language.{Begins, Place, Judged}
-use Rattle.format.proofs.Live.{not-both, Good, good-cond, good-step, sound-format, complete, live, is-stuck}
+use Rattle.format.specs.Language.{Begins, Place, Judged, Checked}
+use Rattle.format.proofs.Live.{not-both, Sound, Good, holds-cond, good-step, sound-format, complete, live, is-stuck}
 use Rattle.format.proofs.Places.{here-end, here-byte, later, one-place, no-place, same-place}
 use Rattle.format.proofs.Accepts.{On, joined, nothing, accepts}
 
@@ -26,7 +26,7 @@ alive s g n =
 
 good-onward : (b : ℕ) (s : State) → Good s → Good (onward s b)
 unfolding onward
-good-onward b s g = good-cond (endsBefore s b) _ (step s b) (good-step b (start free) (sound-format free)) (good-step b s g)
+good-onward b s g = holds-cond Sound (endsBefore s b) _ (step s b) (good-step b (start free) (sound-format free)) (good-step b s g)
 
 no-end : (t : List ℕ) → On stuck t → ⊥
 unfolding run onward step
@@ -88,12 +88,7 @@ from-nought t (fails p) l =
 pub judged : (t : List ℕ) → Judged Files t (judge (start free) 0 t)
 judged t = from-nought t (judge (start free) 0 t) (claim (start free) (sound-format free) refl 0 t)
 
--- THE FILE CHECK
-pub record Checked (t : List ℕ) (r : ℤ) : Type 0 where
-  pub over : 1_000_000_000_000_000 < length t → r ≡ negsuc 1
-  pub fine : length t ≤ 1_000_000_000_000_000 → (r ≡ negsuc 0) ↔ Files t
-  pub place : length t ≤ 1_000_000_000_000_000 → (p : ℕ) → (r ≡ pos p) ↔ Place Files t p
-
+-- what a verdict tells as a number
 module _ (t : List ℕ) where
   fine-number : (v : Verdict) → Judged Files t v → (number v ≡ negsuc 0) ↔ Files t
   fine-number passes j = (λ e. j, λ f. refl)
@@ -112,7 +107,7 @@ module _ (t : List ℕ) where
   unfolding checkOf
   check-within h = rw (le-ltb 1_000_000_000_000_000 (length t) h)
 
--- the file check answers as paper 01 says
+-- THE FILE CHECK answers as paper 01 says
 pub file-check : (t : List ℕ) → Checked t (checkOf t)
 file-check t =
     let v = judge (start free) 0 t in

@@ -1,11 +1,11 @@
 -- The table of blocks and the machine's items say the same, and so do a file's values and its lines block by block. Assumes nothing.
-use Prim.Native.Nat.{ℕ, zero, suc, _-_, _≤_}
+use Prim.Native.Nat.{ℕ, suc, _-_}
 use mathlib.Core.Path.{_≡_, refl, ap, sym, _∙_, subst}
 use mathlib.Core.List.{List, [], _∷_, _++_, map, append-assoc}
 use native.Mathlib.Omega.{arith}
 use lib.ListN.{length}
 use lib.IntN.{ℤ}
-use Rattle.format.specs.Blocks.{Count, one, any, upTo, Block, columns, Rooms, free, blocks}
+use Rattle.format.specs.Blocks.{Block, columns, Rooms, blocks}
 use Rattle.format.specs.Decimal.{All}
 use Rattle.format.specs.Grammar.{namesText, linesText, blocksText, LineFits, Counted, BlocksFit, File, rows, fileText, Fits}
 use Rattle.format.specs.Machine.{Item, byte, lines, laidOut, format}

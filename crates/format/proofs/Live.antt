@@ -1,15 +1,15 @@
 -- EVERY STATE of the machine but the stuck one CAN BE FINISHED: some text leads from it to the end of a file. Assumes nothing.
 use Prim.Native.Nat.{ℕ, zero, suc, _+_}
 use mathlib.Core.Path.{_≡_, refl, ap, sym, _∙_, subst}
-use mathlib.Core.Bool.{Bool, true, false, cond, _&&_}
+use mathlib.Core.Bool.{Bool, true, false, cond}
 use mathlib.Core.List.{List, [], _∷_, _++_}
 use native.Mathlib.Omega.{arith}
-use lib.Dec.{leb, ltb, eqb}
+use lib.Dec.{ltb, eqb}
 use borrow.Author.Tests.{eq-eqb}
-use Rattle.format.specs.Bytes.{lf, comma, minus, isDigit, startsLine}
-use Rattle.format.specs.Blocks.{Count, one, any, upTo, Rooms}
+use Rattle.format.specs.Bytes.{lf, comma, minus, isDigit, isLead, startsLine}
+use Rattle.format.specs.Blocks.{one, any, upTo, Rooms}
 use Rattle.format.specs.Grammar.{more, line}
-use Rattle.format.specs.Machine.{Item, byte, lines, format, Part, fresh, signed, nought, digits, State, stuck, at, value, isStuck, lead, ends, inValue, enter, step, ended, final, start, run, From}
+use Rattle.format.specs.Machine.{Item, byte, lines, format, Part, fresh, signed, nought, digits, State, stuck, at, value, isStuck, lead, ends, inValue, enter, step, final, run, From}
 
 -- true is not false
 pub not-both : {X : Type 0} (t : Bool) → t ≡ false → t ≡ true → X
@@ -26,53 +26,74 @@ Sound [] = Unit {0}
 Sound (byte c ∷ f) = Sound f
 Sound (lines n k ∷ f) = Quiet f × Sound f
 
+-- what holds of the items still to come
+abbrev pub Holds : (List Item → Type 0) → State → Type 0
+Holds P stuck = Unit {0}
+Holds P (at f) = P f
+Holds P (value p k f) = P f
+
+pub holds-cond : (P : List Item → Type 0) (t : Bool) (x y : State) → Holds P x → Holds P y → Holds P (cond t x y)
+holds-cond P true x y a b = a
+holds-cond P false x y a b = b
+
+-- a property of items that their tails have too, and that takes no notice of how much room is left, is kept by every step
+pub record Kept (P : List Item → Type 0) : Type 0 where
+  pub tail : (i : Item) (f : List Item) → P (i ∷ f) → P f
+  pub less : (n k : ℕ) (f : List Item) → P (lines (upTo (suc n)) k ∷ f) → P (lines (upTo n) k ∷ f)
+
+module _ (P : List Item → Type 0) (c : Kept P) (b : ℕ) where
+  keep-lead : (k : ℕ) (f : List Item) → P f → Holds P (lead k f b)
+  keep-lead k f t = holds-cond P (isLead b) (value (digits 1) k f) stuck t tt
+
+  keep-ends : (k : ℕ) (f : List Item) → P f → Holds P (ends k f b)
+  keep-ends zero f t = holds-cond P (eqb b lf) (at f) stuck t tt
+  keep-ends (suc k) f t = holds-cond P (eqb b comma) (value fresh k f) stuck t tt
+
+  keep-value : (p : Part) (k : ℕ) (f : List Item) → P f → Holds P (inValue p k f b)
+  unfolding inValue
+  keep-value fresh k f t =
+      holds-cond P (eqb b minus) (value signed k f) _ t (holds-cond P (eqb b 48) (value nought k f) (lead k f b) t (keep-lead k f t))
+  keep-value signed k f t = keep-lead k f t
+  keep-value nought k f t = keep-ends k f t
+  keep-value (digits n) k f t =
+      holds-cond P (isDigit b) _ (ends k f b) (holds-cond P (ltb n 18) (value (digits (n + 1)) k f) stuck t tt) (keep-ends k f t)
+
+  keep-enter : (f : List Item) → P f → Holds P (enter f b)
+  unfolding enter
+  keep-enter [] t = tt
+  keep-enter (byte n ∷ f) t = holds-cond P (eqb b n) (at f) stuck (c .tail (byte n) f t) tt
+  keep-enter (lines one k ∷ f) t = keep-value fresh k f (c .tail (lines one k) f t)
+  keep-enter (lines any k ∷ f) t =
+      holds-cond P (startsLine b) _ (enter f b) (keep-value fresh k (lines any k ∷ f) t) (keep-enter f (c .tail (lines any k) f t))
+  keep-enter (lines (upTo zero) k ∷ f) t =
+      holds-cond P (startsLine b) stuck (enter f b) tt (keep-enter f (c .tail (lines (upTo zero) k) f t))
+  keep-enter (lines (upTo (suc n)) k ∷ f) t =
+      holds-cond P (startsLine b) _ (enter f b) (keep-value fresh k (lines (upTo n) k ∷ f) (c .less n k f t))
+      (keep-enter f (c .tail (lines (upTo (suc n)) k) f t))
+
+  pub keep-step : (s : State) → Holds P s → Holds P (step s b)
+  unfolding step
+  keep-step stuck g = tt
+  keep-step (at f) g = keep-enter f g
+  keep-step (value p k f) g = keep-value p k f g
+
 -- what holds of every state that a text leads to
 abbrev pub Good : State → Type 0
-Good stuck = Unit {0}
-Good (at f) = Sound f
-Good (value p k f) = Sound f
+Good s = Holds Sound s
+
+sound-kept : Kept Sound
+sound-kept = record { tail = tail; less = λ n k f s. s }
+  where
+    tail : (i : Item) (f : List Item) → Sound (i ∷ f) → Sound f
+    tail (byte c) f s = s
+    tail (lines n k) f s = s .1
+
+pub good-step : (b : ℕ) (s : State) → Good s → Good (step s b)
+good-step b s g = keep-step Sound sound-kept b s g
 
 pub sound-format : (r : Rooms) → Sound (format r)
 unfolding format more line
 sound-format r = (refl, (refl, (refl, (tt, tt))))
-
-pub good-cond : (t : Bool) (x y : State) → Good x → Good y → Good (cond t x y)
-good-cond true x y a b = a
-good-cond false x y a b = b
-
-module _ (b : ℕ) where
-  good-lead : (k : ℕ) (f : List Item) → Sound f → Good (lead k f b)
-  good-lead k f t = good-cond (leb 49 b && ltb b 58) (value (digits 1) k f) stuck t tt
-
-  good-ends : (k : ℕ) (f : List Item) → Sound f → Good (ends k f b)
-  good-ends zero f t = good-cond (eqb b lf) (at f) stuck t tt
-  good-ends (suc k) f t = good-cond (eqb b comma) (value fresh k f) stuck t tt
-
-  good-value : (p : Part) (k : ℕ) (f : List Item) → Sound f → Good (inValue p k f b)
-  unfolding inValue
-  good-value fresh k f t =
-      good-cond (eqb b minus) (value signed k f) _ t (good-cond (eqb b 48) (value nought k f) (lead k f b) t (good-lead k f t))
-  good-value signed k f t = good-lead k f t
-  good-value nought k f t = good-ends k f t
-  good-value (digits n) k f t =
-      good-cond (isDigit b) _ (ends k f b) (good-cond (ltb n 18) (value (digits (n + 1)) k f) stuck t tt) (good-ends k f t)
-
-  good-enter : (f : List Item) → Sound f → Good (enter f b)
-  unfolding enter
-  good-enter [] t = tt
-  good-enter (byte c ∷ f) t = good-cond (eqb b c) (at f) stuck t tt
-  good-enter (lines one k ∷ f) t = good-value fresh k f (t .1)
-  good-enter (lines any k ∷ f) t =
-      good-cond (startsLine b) _ (enter f b) (good-value fresh k (lines any k ∷ f) t) (good-enter f (t .1))
-  good-enter (lines (upTo zero) k ∷ f) t = good-cond (startsLine b) stuck (enter f b) tt (good-enter f (t .1))
-  good-enter (lines (upTo (suc n)) k ∷ f) t =
-      good-cond (startsLine b) _ (enter f b) (good-value fresh k (lines (upTo n) k ∷ f) t) (good-enter f (t .1))
-
-  pub good-step : (s : State) → Good s → Good (step s b)
-  unfolding step
-  good-step stuck g = tt
-  good-step (at f) g = good-enter f g
-  good-step (value p k f) g = good-value p k f g
 
 -- THE SHORTEST WAY TO AN END: zeros to the end of a line, one line where there must be one, and the names
 zeros : ℕ → List ℕ

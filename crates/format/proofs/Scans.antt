@@ -6,11 +6,10 @@ use mathlib.Core.Logic.{_↔_}
 use mathlib.Core.Bool.{Bool, true, false, cond, _&&_}
 use mathlib.Core.List.{List, [], _∷_, _++_, append-nil}
 use native.Mathlib.Omega.{arith}
-use lib.Dec.{eqb}
 use lib.ListN.{length}
 use borrow.Author.Tests.{eq-eqb, eqb-true}
 use Rattle.format.specs.Bytes.{m, startsLine}
-use Rattle.format.specs.Blocks.{Count, one, any, upTo, Rooms}
+use Rattle.format.specs.Blocks.{one, any, upTo, Rooms}
 use Rattle.format.specs.Grammar.{fileText}
 use Rattle.format.specs.Machine.{Item, byte, lines, State, stuck, at, value, isStuck, enter, step, final, endsBefore, start, run, From}
 use Rattle.format.specs.Language.{Begins, Place, Follows, Stands}

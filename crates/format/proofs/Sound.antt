@@ -1,6 +1,6 @@
 -- SOUNDNESS: a text that leads the machine from the start to the end of a file is a file's text. Assumes nothing.
 use Prim.Native.Nat.{ℕ, zero, suc, _+_, _-_, _≤_, _<_, zero-le, suc-le-suc}
-use mathlib.Core.Path.{_≡_, refl, ap, sym, _∙_, subst}
+use mathlib.Core.Path.{_≡_, refl, ap, sym, _∙_}
 use mathlib.Core.Bool.{Bool, true, false, cond, _&&_}
 use mathlib.Core.List.{List, [], _∷_, _++_, map, append-assoc}
 use native.Mathlib.Omega.{arith}
@@ -8,14 +8,14 @@ use lib.Dec.{leb, ltb, eqb}
 use lib.ListN.{length}
 use lib.IntN.{ℤ}
 use borrow.Author.Tests.{leb-true, ltb-true, eqb-true}
-use Rattle.format.specs.Bytes.{lf, comma, isDigit, startsLine, Digit}
+use Rattle.format.specs.Bytes.{lf, comma, isDigit, is-digit, isLead, startsLine, Digit}
 use Rattle.format.specs.Bytes as B
 use Rattle.format.specs.Blocks.{Count, one, any, upTo, Rooms}
 use Rattle.format.specs.Decimal as D
 use Rattle.format.specs.Decimal.{text, Small, All, Numeral, Value}
 use Rattle.format.specs.Grammar.{more, line, lineText, linesText, LineFits, Counted, File, fileText, Fits}
 use Rattle.format.specs.Machine.{Item, byte, lines, format, Part, fresh, signed, nought, digits, State, stuck, at, value, lead, ends, inValue, enter, step, ended, final, start, run, From}
-use Rattle.format.proofs.Decimals.{TextOf, text-of}
+use Rattle.format.proofs.Decimals.{text-of}
 use Rattle.format.proofs.Live.{not-both}
 use Rattle.format.proofs.Laid.{spell, Spells, file-text, spelt}
 
@@ -58,8 +58,8 @@ both : (p q : Bool) → (p && q) ≡ true → (p ≡ true) × (q ≡ true)
 both true q e = (refl, e)
 both false q e = not-both false refl e
 
-pub digit-in : (b : ℕ) → isDigit b ≡ true → Digit b
-digit-in b e = let c = both (leb 48 b) (ltb b 58) e in record { low = leb-true 48 b (c .0); high = ltb-true b 58 (c .1) }
+lead-in : (b : ℕ) → isLead b ≡ true → (49 ≤ b) × (b < 58)
+lead-in b e = let c = both (leb 49 b) (ltb b 58) e in (leb-true 49 b (c .0), ltb-true b 58 (c .1))
 
 module _ (b : ℕ) (t : List ℕ) where
   -- the byte after a whole value
@@ -114,8 +114,8 @@ module _ (b : ℕ) (t : List ℕ) where
   -- a first digit that is not 0
   leading : (q : Part) (k : ℕ) (g : List Item) → ((u : List ℕ) → Numeral u → Left q u) → Tail (lead k g b) t → InLine q k g (b ∷ t)
   leading q k g l h =
-      let c = passed (leb 49 b && ltb b 58) (value (digits 1) k g) t h in
-      let d = both (leb 49 b) (ltb b 58) (c .0) in
+      let c = passed (isLead b) (value (digits 1) k g) t h in
+      let d = lead-in b (c .0) in
       let i = c .1 in
       longer (digits 1) q k g i
       (l (b ∷ i .rest)
@@ -123,8 +123,8 @@ module _ (b : ℕ) (t : List ℕ) where
         first = b;
         rest = i .rest;
         is = refl;
-        low = leb-true 49 b (d .0);
-        high = ltb-true b 58 (d .1);
+        low = d .0;
+        high = d .1;
         digits = i .left .0;
         short = omega (arith, i .left .1);
       }))
@@ -153,7 +153,7 @@ module _ (b : ℕ) (t : List ℕ) where
       by true e i =
           let c = passed (ltb n 18) (value (digits (n + 1)) k g) t i in
           let l = ltb-true n 18 (c .0) in
-          longer (digits (n + 1)) (digits n) k g (c .1) ((digit-in b e, c .1 .left .0), omega (arith, c .1 .left .1))
+          longer (digits (n + 1)) (digits n) k g (c .1) ((is-digit b .0 e, c .1 .left .0), omega (arith, c .1 .left .1))
       by false e i = back-ends (digits n) (tt, zero-le) k g i
 
   back-value : (p : Part) (k : ℕ) (g : List Item) → Tail (inValue p k g b) t → InLine p k g (b ∷ t)

@@ -1,24 +1,21 @@
 -- COMPLETENESS: every file's text leads the machine from the start to the end of a file. Assumes nothing.
 use Prim.Native.Nat.{ℕ, zero, suc, _+_, _≤_, _<_}
 use mathlib.Core.Path.{_≡_, refl, ap, sym, _∙_, subst}
-use mathlib.Core.Bool.{Bool, true, false}
+use mathlib.Core.Bool.{true, false}
 use mathlib.Core.List.{List, [], _∷_, _++_, map, append-assoc}
 use native.Mathlib.Omega.{arith}
 use lib.ListN.{length}
 use lib.IntN.{ℤ}
 use borrow.Author.Tests.{lt-ltb, le-leb, ne-eqb}
-use Rattle.format.specs.Bytes.{lf, comma, minus, isDigit, startsLine, Digit}
-use Rattle.format.specs.Blocks.{Count, one, any, upTo, Rooms}
+use Rattle.format.specs.Bytes.{lf, comma, minus, isDigit, is-digit, startsLine, Digit}
+use Rattle.format.specs.Blocks.{one, any, upTo, Rooms}
 use Rattle.format.specs.Decimal as D
-use Rattle.format.specs.Decimal.{text, Small, All, Numeral, Value}
+use Rattle.format.specs.Decimal.{text, Small, All, Value}
 use Rattle.format.specs.Grammar.{more, line, lineText, linesText, LineFits, File, rows, fileText, Fits}
 use Rattle.format.specs.Machine.{Item, byte, lines, format, fresh, signed, nought, digits, State, at, value, ends, inValue, enter, step, final, start, run, From}
 use Rattle.format.proofs.Decimals.{value-of}
 use Rattle.format.proofs.Live.{Quiet, Sound, sound-format, hit, skip-any, skip-upTo, go}
 use Rattle.format.proofs.Laid.{spell, Spells, file-text, file-spells}
-
-pub digit-test : (b : ℕ) → Digit b → isDigit b ≡ true
-digit-test b d = rw (le-leb 48 b (d .low), lt-ltb b 58 (d .high))
 
 -- one byte on
 on : (b : ℕ) (s s' : State) (x : List ℕ) → step s b ≡ s' → run step s (b ∷ x) ≡ run step s' x
@@ -28,7 +25,7 @@ on b s s' x e = ap (λ (q : State). run step q x) e
 module _ (k : ℕ) (g : List Item) where
   digit-step : (n c : ℕ) → Digit c → n < 18 → step (value (digits n) k g) c ≡ value (digits (n + 1)) k g
   unfolding step inValue
-  digit-step n c d h = rw (digit-test c d, lt-ltb n 18 h)
+  digit-step n c d h = rw (is-digit c .1 d, lt-ltb n 18 h)
 
   signed-step : (c : ℕ) → 49 ≤ c → c < 58 → step (value signed k g) c ≡ value (digits 1) k g
   unfolding step inValue

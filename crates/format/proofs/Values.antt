@@ -7,15 +7,17 @@ use native.Mathlib.Omega.{arith}
 use lib.ListN.{length, drop, length-append}
 use lib.Seq.{drop-append-seam}
 use lib.IntN.{ℤ, pos, negsuc}
+use mir.Val.{SFits}
+use mir.Syntax.{w64}
 use borrow.Author.Tests.{ne-eqb}
-use Rattle.format.specs.Bytes.{lf, comma, minus, isDigit, startsLine, Digit}
+use Rattle.format.specs.Bytes.{lf, comma, minus, isDigit, is-digit, startsLine, Digit}
 use Rattle.format.specs.Blocks.{Count, one, any, upTo, Block, columns, Rooms, free, blocks}
 use Rattle.format.specs.Decimal.{shown, text, Small, All}
 use Rattle.format.specs.Grammar.{more, line, namesText, lineText, linesText, blocksText, LineFits, Counted, BlocksFit, File, rows, fileText, Fits}
 use Rattle.format.specs.Language.{Follows}
 use Rattle.format.specs.Values.{Got, readDigits, withSign, readValue, readLine, lineHere, readLines, most, readBlocks, fileOf}
 use Rattle.format.proofs.Decimals.{said, numeral, read-back}
-use Rattle.format.proofs.Takes.{digit-test, line-begun}
+use Rattle.format.proofs.Takes.{line-begun}
 
 digits-read :
     (k : ℕ) (ds : List ℕ) (a b : ℕ) (x : List ℕ)
@@ -29,7 +31,7 @@ digits-read zero (d ∷ ds) a b x h t e = absurd (omega arith)
 digits-read (suc k) [] a b x h t e = rw e
 digits-read (suc k) (d ∷ ds) a b x h t e =
     ap (λ (q : Bool). cond q (readDigits k (a * 10 + (d - 48)) (ds ++ (b ∷ x))) (record { got = a; left = d ∷ (ds ++ (b ∷ x)) }))
-    (digit-test d (t .0))
+    (is-digit d .1 (t .0))
     ∙ digits-read k ds (a * 10 + (d - 48)) b x (omega arith) (t .1) e
 
 -- a number's digits, and no minus sign first
@@ -213,3 +215,26 @@ pub values-back : (r : Rooms) (f : File) (u : List ℕ) → Fits r f → Follows
 unfolding blocksText
 values-back r f u a e =
     ap (λ (g : Got (List (List (List ℤ)))). fileOf (g .got)) (blocks-read (blocks r) (rows f) u (all-headed r) a (no-line-after u e))
+
+-- so a text is read in one way only
+pub one-reading :
+    (f g : File) (u v : List ℕ)
+    → Fits free f
+    → Fits free g
+    → Follows u
+    → Follows v
+    → fileText f ++ u ≡ fileText g ++ v
+    → (f ≡ g) × (u ≡ v)
+one-reading f g u v x y d e q =
+    let h : f ≡ g =
+    sym (values-back free f u x d) ∙ ap (λ (t : List ℕ). fileOf (readBlocks (blocks free) t .got)) q ∙ values-back free g v y e in (
+      h,
+      sym (drop-append-seam (fileText f) u)
+          ∙ ap (drop (length (fileText f))) (q ∙ ap (λ (k : File). fileText k ++ v) (sym h))
+          ∙ drop-append-seam (fileText f) v,
+    )
+
+-- a value fits a signed word of 64 bits
+pub small-fits : (z : ℤ) → Small z → SFits w64 z
+small-fits (pos n) h = record { sfits = omega arith }
+small-fits (negsuc n) h = record { sfits = omega arith }

@@ -5,19 +5,20 @@ use mathlib.Core.Path.{_≡_, refl, ap, sym, _∙_, subst}
 use mathlib.Core.Bool.{Bool, true, false, cond, _&&_}
 use mathlib.Core.List.{List, [], _∷_, _++_}
 use native.Mathlib.Omega.{arith}
-use native.Mathlib.Decide.{decLe, ℕ-discrete}
+use native.Mathlib.Decide.{ℕ-discrete}
 use lib.Dec.{leb, ltb, eqb}
 use lib.ListN.{length, take, getD}
-use borrow.Author.Tests.{leb-true, ltb-true, eqb-true, le-leb, lt-ltb, eq-eqb, ne-eqb}
-use Rattle.format.specs.Bytes.{lf, comma, minus, isDigit, startsLine}
+use borrow.Author.Tests.{leb-true, le-leb, eq-eqb, ne-eqb}
+use Rattle.format.specs.Bytes.{minus, isDigit, startsLine}
 use Rattle.format.specs.Blocks.{Count, one, any, upTo, free, slices}
 use Rattle.format.specs.Grammar.{more, line}
-use Rattle.format.specs.Machine.{Item, byte, lines, format, Part, fresh, signed, nought, digits, State, stuck, at, value, isStuck, lead, ends, inValue, enter, step, ended, final, endsBefore, start, run, From}
+use Rattle.format.specs.Machine.{Item, byte, lines, format, fresh, signed, nought, State, stuck, at, value, isStuck, lead, inValue, enter, step, ended, final, endsBefore, start, run}
 use Rattle.format.specs.Language.{Begins}
 use Rattle.format.specs.Reading.{noRoom, tooMany, scan}
 use Rattle.format.specs.declared.Scanned.{Scanned}
 use Rattle.format.specs.declared.Scanned.the-variants.{Whole, Faulty, Full}
 use Rattle.format.proofs.Live.{not-both, Quiet, Sound, Good, good-step}
+use Rattle.format.proofs.Changed.{with, with-final, with-stuck, with-cond, with-value}
 use Rattle.format.proofs.Scans.{Rests, finished, both, past-step}
 
 -- the same with room for any count
@@ -32,20 +33,13 @@ widen (byte c ∷ f) = byte c ∷ widen f
 widen (lines n k ∷ f) = lines (more-room n) k ∷ widen f
 
 abbrev pub wide : State → State
-wide stuck = stuck
-wide (at f) = at (widen f)
-wide (value p k f) = value p k (widen f)
+wide s = with widen s
 
 pub wide-start : (a u p : ℕ) → wide (start (slices a u p)) ≡ start free
 unfolding format line more
 wide-start a u p = refl
 
 -- what the tests see of a state is the same
-wide-stuck : (s : State) → isStuck (wide s) ≡ isStuck s
-wide-stuck stuck = refl
-wide-stuck (at f) = refl
-wide-stuck (value p k f) = refl
-
 wide-ended : (f : List Item) → ended (widen f) ≡ ended f
 wide-ended [] = refl
 wide-ended (byte c ∷ f) = refl
@@ -54,9 +48,7 @@ wide-ended (lines any k ∷ f) = wide-ended f
 wide-ended (lines (upTo n) k ∷ f) = wide-ended f
 
 wide-final : (s : State) → final (wide s) ≡ final s
-wide-final stuck = refl
-wide-final (at f) = wide-ended f
-wide-final (value p k f) = refl
+wide-final s = with-final widen wide-ended s
 
 wide-room : (f : List Item) → noRoom (widen f) ≡ false
 wide-room [] = refl
@@ -86,36 +78,13 @@ wide-good (at f) g = wide-sound f g
 wide-good (value p k f) g = wide-sound f g
 
 -- and so is a step, but at a line too many
-wide-cond : (q : Bool) (x y x' y' : State) → x' ≡ wide x → y' ≡ wide y → cond q x' y' ≡ wide (cond q x y)
-wide-cond true x y x' y' d e = d
-wide-cond false x y x' y' d e = e
-
 module _ (b : ℕ) where
-  wide-lead : (k : ℕ) (f : List Item) → lead k (widen f) b ≡ wide (lead k f b)
-  wide-lead k f = wide-cond (leb 49 b && ltb b 58) (value (digits 1) k f) stuck _ _ refl refl
-
-  wide-ends : (k : ℕ) (f : List Item) → ends k (widen f) b ≡ wide (ends k f b)
-  wide-ends zero f = wide-cond (eqb b lf) (at f) stuck _ _ refl refl
-  wide-ends (suc k) f = wide-cond (eqb b comma) (value fresh k f) stuck _ _ refl refl
-
-  wide-value : (p : Part) (k : ℕ) (f : List Item) → inValue p k (widen f) b ≡ wide (inValue p k f b)
-  unfolding inValue
-  wide-value fresh k f =
-      wide-cond (eqb b minus) (value signed k f) (cond (eqb b 48) (value nought k f) (lead k f b)) _ _ refl
-      (wide-cond (eqb b 48) (value nought k f) (lead k f b) _ _ refl (wide-lead k f))
-  wide-value signed k f = wide-lead k f
-  wide-value nought k f = wide-ends k f
-  wide-value (digits n) k f =
-      wide-cond (isDigit b) (cond (ltb n 18) (value (digits (n + 1)) k f) stuck) (ends k f b) _ _
-      (wide-cond (ltb n 18) (value (digits (n + 1)) k f) stuck _ _ refl refl)
-      (wide-ends k f)
-
   -- at a byte that begins no line
   wide-names : startsLine b ≡ false → (f : List Item) → enter (widen f) b ≡ wide (enter f b)
   unfolding enter
   wide-names s [] = refl
-  wide-names s (byte c ∷ f) = wide-cond (eqb b c) (at f) stuck _ _ refl refl
-  wide-names s (lines one k ∷ f) = wide-value fresh k f
+  wide-names s (byte c ∷ f) = with-cond widen (eqb b c) (at f) stuck _ _ refl refl
+  wide-names s (lines one k ∷ f) = with-value widen b fresh k f
   wide-names s (lines any k ∷ f) = rw s (wide-names s f)
   wide-names s (lines (upTo zero) k ∷ f) = rw s (wide-names s f)
   wide-names s (lines (upTo (suc n)) k ∷ f) = rw s (wide-names s f)
@@ -124,11 +93,11 @@ module _ (b : ℕ) where
   wide-line : startsLine b ≡ true → (f : List Item) → noRoom f ≡ false → enter (widen f) b ≡ wide (enter f b)
   unfolding enter
   wide-line s [] e = refl
-  wide-line s (byte c ∷ f) e = wide-cond (eqb b c) (at f) stuck _ _ refl refl
-  wide-line s (lines one k ∷ f) e = wide-value fresh k f
-  wide-line s (lines any k ∷ f) e = rw s (wide-value fresh k (lines any k ∷ f))
+  wide-line s (byte c ∷ f) e = with-cond widen (eqb b c) (at f) stuck _ _ refl refl
+  wide-line s (lines one k ∷ f) e = with-value widen b fresh k f
+  wide-line s (lines any k ∷ f) e = rw s (with-value widen b fresh k (lines any k ∷ f))
   wide-line s (lines (upTo zero) k ∷ f) e = not-both true e refl
-  wide-line s (lines (upTo (suc n)) k ∷ f) e = rw s (wide-value fresh k (lines (upTo n) k ∷ f))
+  wide-line s (lines (upTo (suc n)) k ∷ f) e = rw s (with-value widen b fresh k (lines (upTo n) k ∷ f))
 
   wide-enter : (f : List Item) → (noRoom f && startsLine b) ≡ false → enter (widen f) b ≡ wide (enter f b)
   wide-enter f e = by (noRoom f) (startsLine b) refl refl e
@@ -143,7 +112,7 @@ module _ (b : ℕ) where
   unfolding step
   wide-step stuck e = refl
   wide-step (at f) e = wide-enter f e
-  wide-step (value p k f) e = wide-value p k f
+  wide-step (value p k f) e = with-value widen b p k f
 
   -- a line may begin with any digit and with a minus sign
   begins-value : startsLine b ≡ true → (k : ℕ) (f : List Item) → isStuck (inValue fresh k f b) ≡ false
@@ -203,7 +172,7 @@ module _ (s : State) (b : ℕ) (t : List ℕ) (k : ℕ) where
 
   wide-goes : endsBefore s b ≡ false → tooMany s b ≡ false → scan (wide s) k (b ∷ t) ≡ cond (isStuck (step s b)) (Faulty k) (scan (wide (step s b)) (k + 1) t)
   unfolding scan
-  wide-goes o f = rw (wide-final s, o, wide-few s b, wide-step b s f, wide-stuck (step s b))
+  wide-goes o f = rw (wide-final s, o, wide-few s b, wide-step b s f, with-stuck widen (step s b))
 
   -- a line too many begins here
   wide-here : Good s → endsBefore s b ≡ false → tooMany s b ≡ true → Longer s (b ∷ t) k k

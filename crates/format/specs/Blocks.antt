@@ -35,7 +35,7 @@ free = record { agents = any; users = any; points = any }
 abbrev pub slices : ℕ → ℕ → ℕ → Rooms
 slices a u p = record { agents = upTo a; users = upTo u; points = upTo p }
 
--- THE TABLE
+-- THE TABLE: four blocks with their names, as in paper 01's example
 abbrev pub month : Block
 month = record { names = "month" ∷ "ons" ∷ []; count = one }
 

@@ -2,11 +2,13 @@
 -- text's length". No machine stands here. Assumes nothing.
 use Prim.Native.Nat.{ℕ, suc, _≤_, _<_}
 use mathlib.Core.Path.{_≡_}
+use mathlib.Core.Logic.{_↔_}
 use mathlib.Core.List.{List, [], _∷_, _++_}
 use lib.ListN.{length, take}
+use lib.IntN.{ℤ, pos, negsuc}
 use Rattle.format.specs.Bytes.{m}
 use Rattle.format.specs.Blocks.{Rooms}
-use Rattle.format.specs.Grammar.{File, fileText, Fits}
+use Rattle.format.specs.Grammar.{File, fileText, Fits, Files}
 use Rattle.format.specs.Machine.{Verdict, passes, fails}
 
 -- a text of the language L begins so
@@ -39,3 +41,9 @@ pub record Stands (r : Rooms) (t : List ℕ) : Type 0 where
   pub fits : Fits r file
   pub follows : Follows rest
   pub is : t ≡ fileText file ++ rest
+
+-- what the file check's number says of a text: -2 over 10^15 bytes; else -1 for one or more files on end, or the place of its 11
+pub record Checked (t : List ℕ) (number : ℤ) : Type 0 where
+  pub over : 1_000_000_000_000_000 < length t → number ≡ negsuc 1
+  pub fine : length t ≤ 1_000_000_000_000_000 → (number ≡ negsuc 0) ↔ Files t
+  pub place : length t ≤ 1_000_000_000_000_000 → (p : ℕ) → (number ≡ pos p) ↔ Place Files t p

@@ -6,3 +6,4 @@ pub mod Machine
 pub mod Language
 pub mod Values
 pub mod Reading
+pub mod Counting

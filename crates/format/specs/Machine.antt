@@ -5,10 +5,10 @@ use Prim.Native.Nat.{ℕ, zero, suc, _+_, _-_}
 use mathlib.Core.Path.{_≡_}
 use mathlib.Core.Bool.{Bool, true, false, cond, _&&_}
 use mathlib.Core.List.{List, [], _∷_, _++_, map}
-use lib.Dec.{leb, ltb, eqb}
+use lib.Dec.{ltb, eqb}
 use lib.ListN.{length}
 use lib.IntN.{ℤ, pos, negsuc}
-use Rattle.format.specs.Bytes.{lf, comma, minus, m, isDigit, startsLine}
+use Rattle.format.specs.Bytes.{lf, comma, minus, m, isDigit, isLead, startsLine}
 use Rattle.format.specs.Blocks.{Count, one, any, upTo, Block, columns, Rooms, free, blocks}
 use Rattle.format.specs.Grammar.{namesText}
 
@@ -17,6 +17,7 @@ pub data Item : Type 0 where
   byte : ℕ → Item
   lines : Count → ℕ → Item
 
+-- a block laid out, and blocks
 abbrev pub items : Block → List Item
 items b = map byte (namesText b) ++ (lines (b .count) (columns b - 1) ∷ [])
 
@@ -24,7 +25,7 @@ abbrev pub laidOut : List Block → List Item
 laidOut [] = []
 laidOut (b ∷ bs) = items b ++ laidOut bs
 
--- a whole file
+-- a whole file laid out, for so many lines
 unfoldable pub format : Rooms → List Item
 format r = laidOut (blocks r)
 
@@ -42,6 +43,7 @@ pub data State : Type 0 where
   at : List Item → State
   value : Part → ℕ → List Item → State
 
+-- no file goes on so
 abbrev pub isStuck : State → Bool
 isStuck stuck = true
 isStuck (at f) = false
@@ -49,7 +51,7 @@ isStuck (value p k f) = false
 
 -- a first digit that is not 0
 abbrev pub lead : ℕ → List Item → ℕ → State
-lead k f b = cond (leb 49 b && ltb b 58) (value (digits 1) k f) stuck
+lead k f b = cond (isLead b) (value (digits 1) k f) stuck
 
 -- after a whole value: a comma where its line has more values, else LF
 abbrev pub ends : ℕ → List Item → ℕ → State
@@ -92,9 +94,11 @@ final stuck = false
 final (at f) = ended f
 final (value p k f) = false
 
+-- a file ends before this byte
 abbrev pub endsBefore : State → ℕ → Bool
 endsBefore s b = final s && eqb b m
 
+-- before the first byte of a file
 abbrev pub start : Rooms → State
 start r = at (format r)
 

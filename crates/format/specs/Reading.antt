@@ -1,14 +1,16 @@
 -- Reading one file at a position of a text (paper 01, "The month file" and "Why a month comes back", 11 and 12): the verdict by the
 -- machine, with the values; and below it what paper 01 says of the answer, with no machine. proofs/Answers.antt proves that the answer is
 -- so, and that nothing else is. Assumes nothing.
-use Prim.Native.Nat.{ℕ, suc, _+_, _<_, min}
+use Prim.Native.Nat.{ℕ, suc, _+_, _≤_, _<_, min}
 use mathlib.Core.Path.{_≡_}
 use mathlib.Core.Bool.{Bool, true, false, cond, _&&_}
 use mathlib.Core.List.{List, [], _∷_, _++_}
 use lib.Dec.{eqb}
-use lib.ListN.{length, take, drop, getD}
+use native.Mathlib.Omega.{arith}
+use lib.ListN.{length, take, drop, getD, drop-of-length-le}
+use lib.Seq.{drop-length}
 use Rattle.format.specs.Bytes.{startsLine}
-use Rattle.format.specs.Blocks.{Count, one, any, upTo, Rooms, free, slices, blocks}
+use Rattle.format.specs.Blocks.{one, any, upTo, Rooms, free, slices, blocks}
 use Rattle.format.specs.Grammar.{File, fileText, Fits}
 use Rattle.format.specs.Machine.{Item, byte, lines, State, stuck, at, value, isStuck, step, final, endsBefore, start}
 use Rattle.format.specs.Language.{Begins, Place, Follows, Stands}
@@ -48,14 +50,21 @@ pub data Answer : Type 0 where
   accepted : File → ℕ → Answer
   refused : ℕ → ℕ → Answer
 
+-- a verdict as an answer, with paper 01's number
 abbrev pub answer : File → Scanned → Answer
 answer f (Whole n) = accepted f n
 answer f (Faulty p) = refused 11 p
 answer f (Full p) = refused 12 p
 
--- READING
+-- READING: the verdict on the file at the position, and where it is whole the file's values
 unfoldable pub reading : Rooms → List ℕ → ℕ → Answer
 reading r t from = answer (fileOf (readBlocks (blocks r) (drop from t) .got)) (scanAt r t from)
+
+pub past-the-end : (r : Rooms) (t : List ℕ) (from : ℕ) → length t ≤ from → reading r t from ≡ reading r t (length t)
+unfolding reading scanAt
+past-the-end r t from h =
+    let e : min from (length t) ≡ min (length t) (length t) = omega arith in
+    rw (drop-of-length-le t h, drop-length, e)
 
 -- WHAT PAPER 01 SAYS OF THE ANSWER, where s is the text from the position on
 
@@ -91,6 +100,7 @@ pub record Back (a u p : ℕ) (t : List ℕ) (from number place : ℕ) : Type 0 
   pub first : Place (Stands (slices a u p)) (drop from t) past
   pub why : Why a u p (drop from t) past number
 
+-- what an answer says
 abbrev pub Says : (a u p : ℕ) (t : List ℕ) (from : ℕ) → Answer → Type 0
 Says a u p t from (accepted f next) = Read a u p t from f next
 Says a u p t from (refused number place) = Back a u p t from number place
@@ -99,3 +109,12 @@ Says a u p t from (refused number place) = Back a u p t from number place
 pub data ReadsOn (a u p : ℕ) (t : List ℕ) : ℕ → Type 0 where
   last : (from : ℕ) (f : File) → reading (slices a u p) t from ≡ accepted f (length t) → ReadsOn a u p t from
   then : (from : ℕ) (f : File) (next : ℕ) → reading (slices a u p) t from ≡ accepted f next → ReadsOn a u p t next → ReadsOn a u p t from
+
+-- file after file is read, and before the text's end one comes back with this number and place
+pub data ComesBack (a u p : ℕ) (t : List ℕ) : ℕ → ℕ → ℕ → Type 0 where
+  here : (from number place : ℕ) → reading (slices a u p) t from ≡ refused number place → ComesBack a u p t from number place
+  further : (from : ℕ) (f : File) (next number place : ℕ)
+      → reading (slices a u p) t from ≡ accepted f next
+      → next < length t
+      → ComesBack a u p t next number place
+      → ComesBack a u p t from number place

@@ -1,6 +1,7 @@
 -- The values of a file, read from a text that is known to be right (paper 01, "The month file"). The verdict on a text is
 -- Reading.antt's. Assumes nothing.
 use Prim.Native.Nat.{ℕ, zero, suc, _+_, _-_, _*_}
+use mathlib.Core.Path.{_≡_, refl}
 use mathlib.Core.Bool.{Bool, true, false, cond}
 use mathlib.Core.List.{List, [], _∷_}
 use lib.Dec.{eqb}
@@ -8,7 +9,7 @@ use lib.ListN.{length, drop, getD}
 use lib.IntN.{ℤ, pos, negℤ}
 use Rattle.format.specs.Bytes.{minus, isDigit, startsLine}
 use Rattle.format.specs.Blocks.{Count, one, any, upTo, Block, columns}
-use Rattle.format.specs.Grammar.{namesText, File}
+use Rattle.format.specs.Grammar.{namesText, File, rows}
 
 -- what was read, and what is left of the text
 pub record Got (A : Type 0) : Type 0 where
@@ -39,6 +40,7 @@ readLine (suc c) t =
     let r = readLine c (drop 1 (v .left)) in
     record { got = v .got ∷ r .got; left = r .left }
 
+-- "a line of values begins at a digit or minus sign"
 abbrev pub lineHere : List ℕ → Bool
 lineHere [] = false
 lineHere (b ∷ t) = startsLine b
@@ -51,7 +53,7 @@ readLines (suc k) c t =
     let r = readLines k c (l .left) in
     cond (lineHere t) (record { got = l .got ∷ r .got; left = r .left }) (record { got = []; left = t })
 
--- as many lines as there is room for, and never more than bytes
+-- how many lines to read at most: as many as there is room for; where there is room for any count, as many as there are bytes
 abbrev pub most : Count → List ℕ → ℕ
 most one t = 1
 most any t = length t
@@ -71,3 +73,6 @@ abbrev pub fileOf : List (List (List ℤ)) → File
 fileOf w =
     let l = getD (getD w 0 []) 0 [] in
     record { month = getD l 0 (pos 0); ons = getD l 1 (pos 0); agents = getD w 1 []; users = getD w 2 []; points = getD w 3 [] }
+
+pub file-of-rows : (f : File) → fileOf (rows f) ≡ f
+file-of-rows f = refl
