@@ -7,7 +7,7 @@ use Rattle.format.specs.Grammar.{File}
 use Rattle.rules.specs.declared.Point.{Point}
 use Rattle.rules.specs.Calendar.{cycleMonth}
 use Rattle.rules.specs.Credits.{VMPA}
-use Rattle.rules.specs.Lines.{Lines, agentOf, userOf, pointOf}
+use Rattle.rules.specs.Lines.{Lines, monthLines, agentOf, userOf, pointOf}
 use Rattle.rules.specs.Table.{cellAt}
 use Rattle.rules.specs.Refusals.{Lengths, cellsNeeded, workNeeded}
 use Rattle.rules.specs.Tally.{Fed}
@@ -21,14 +21,7 @@ minus n = negℤ (pos n)
 
 -- the lines of a file's values
 abbrev pub linesOf : File → Lines
-linesOf f =
-    record {
-      month = f .month;
-      ons = f .ons;
-      agents = map agentOf (f .agents);
-      users = map userOf (f .users);
-      points = map pointOf (f .points);
-    }
+linesOf f = monthLines (f .month) (f .ons) (f .agents) (f .users) (map pointOf (f .points))
 
 -- slices just long enough for so many users and agents
 abbrev pub enough : ℕ → ℕ → Lengths

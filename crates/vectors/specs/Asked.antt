@@ -19,7 +19,7 @@ use Rattle.rules.specs.declared.Ledger.{Ledger}
 use Rattle.rules.specs.Verdict.{Verdict, accepted, refused, eachLine}
 use Rattle.rules.specs.Lists.{eachFrom, sideBySide}
 use Rattle.rules.specs.Calendar.{monthOfYear, impossibleMonth, cycleMonth}
-use Rattle.rules.specs.Lines.{Lines, agentOf, userOf, pointOf, kindOf, badAgent, badUser, badPoint, unfitPoint}
+use Rattle.rules.specs.Lines.{Lines, monthLines, pointOf, kindOf, badAgent, badUser, badPoint, unfitPoint}
 use Rattle.rules.specs.Charges.{halfUp, orZero, useCharge, allowance, excess, overrun, ofUser, overruns, EUSTs, VMEs, pvTotal, CPVs, ns, VDs, newCredits}
 use Rattle.rules.specs.Credits.{VMPA, VMST, ownCredit, ownCredits, SMSE, VMANTs, VCs}
 use Rattle.rules.specs.Refusals.{Lengths, badCounts, shortSlices, badMonth, lineTests, sumTests, refusal, openingRefusal}
@@ -59,14 +59,7 @@ pub record Closing : Type 0 where
   pub points : List (List ℤ)
 
 abbrev pub linesOf : Closing → Lines
-linesOf c =
-    record {
-      month = c .month;
-      ons = c .ons;
-      agents = map agentOf (c .agents);
-      users = map userOf (c .users);
-      points = map pointOf (c .points);
-    }
+linesOf c = monthLines (c .month) (c .ons) (c .agents) (c .users) (map pointOf (c .points))
 
 -- every amount of an accepted month
 pub record Amounts : Type 0 where
