@@ -80,7 +80,7 @@ record Counts (s : State) (l : Lines) : Type 0 where
   agents : length (l .agents) ≡ s .agents
   last-month : s .month ≢ pos 0 → Possible (s .month)
 
-counts : (s : State) (l : Lines) → badCounts s l ≡ false → Counts s l
+counts : (s : State) (l : Lines) → badCounts s (length (l .users)) (length (l .agents)) (length (l .points)) ≡ false → Counts s l
 unfolding badCounts
 counts s l e =
     let e₅ = or-false _ _ e in
@@ -107,7 +107,7 @@ slices s n e =
     let b = when-then _ 2 2 _ (a .1) in
     (ltb-false _ _ (a .0), ltb-false _ _ (b .0), ltb-false _ _ (when-accepted _ 2 3 (b .1)))
 
-month-after : (s : State) (l : Lines) → badMonth s l ≡ false → Possible (l .month) × (s .month <ℤ l .month)
+month-after : (s : State) (l : Lines) → badMonth (s .month) (l .month) ≡ false → Possible (l .month) × (s .month <ℤ l .month)
 unfolding badMonth
 month-after s l e = let f = or-false _ _ e in (possible _ (f .0), lt-out (leZ-false (l .month) (s .month) (f .1)))
 
@@ -147,9 +147,9 @@ sums credits l e =
 pub passed : (s : State) (n : Lengths) (l : Lines) → refusal s n l ≡ accepted → Passed s n l
 unfolding refusal
 passed s n l e =
-    let a = when-then (badCounts s l) 1 0 _ e in
+    let a = when-then (badCounts s (length (l .users)) (length (l .agents)) (length (l .points))) 1 0 _ e in
     let b = then-accepted (shortSlices s n) _ (a .1) in
-    let c = when-then (badMonth s l) 3 0 _ (b .1) in
+    let c = when-then (badMonth (s .month) (l .month)) 3 0 _ (b .1) in
     let d = then-accepted (eachLine creditTest 1 (s .credits)) _ (c .1) in
     let f = then-accepted (lineTests l) _ (d .1) in
     let first = counts s l (a .0) in

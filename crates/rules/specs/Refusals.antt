@@ -41,14 +41,15 @@ cellsNeeded users agents = (agents + 1) * users
 abbrev pub workNeeded : ℕ → ℕ → ℕ
 workNeeded users agents = 2 * cellsNeeded users agents + 4 * (agents + 1 + users)
 
--- 1: a count outside its limit or unlike the ledger's, or a last closed month neither 0 nor possible
-unfoldable pub badCounts : State → Lines → Bool
-badCounts s l =
-    badUsers (length (l .users))
-    || badAgents (length (l .agents))
-    || ltb 1024 (length (l .points))
-    || not (eqb (length (l .users)) (s .users))
-    || not (eqb (length (l .agents)) (s .agents))
+-- 1: a count outside its limit or unlike the ledger's, or a last closed month neither 0 nor possible; the counts are those of user,
+-- agent and point lines
+unfoldable pub badCounts : State → ℕ → ℕ → ℕ → Bool
+badCounts s users agents points =
+    badUsers users
+    || badAgents agents
+    || ltb 1024 points
+    || not (eqb users (s .users))
+    || not (eqb agents (s .agents))
     || (not (eqZ (s .month) (pos 0)) && impossibleMonth (s .month))
 
 -- 2: a slice too short; place 1 held, 2 cells, 3 work, the lowest that is
@@ -59,8 +60,8 @@ shortSlices s n =
     then when (ltb (n .work) (workNeeded (s .users) (s .agents))) 2 3
 
 -- 3: month impossible, or not later than the last closed
-unfoldable pub badMonth : State → Lines → Bool
-badMonth s l = impossibleMonth (l .month) || leZ (l .month) (s .month)
+unfoldable pub badMonth : ℤ → ℤ → Bool
+badMonth last month = impossibleMonth month || leZ month last
 
 -- 4: a held credit below 0 or above 10^17; place its user
 abbrev pub creditTest : ℕ → ℤ → Verdict
@@ -98,9 +99,9 @@ sumTests credits l =
 -- closing: 1, 2, 3, 4; then the lines; then 8, 9, 10
 unfoldable pub refusal : State → Lengths → Lines → Verdict
 refusal s n l =
-    when (badCounts s l) 1 0
+    when (badCounts s (length (l .users)) (length (l .agents)) (length (l .points))) 1 0
     then shortSlices s n
-    then when (badMonth s l) 3 0
+    then when (badMonth (s .month) (l .month)) 3 0
     then eachLine creditTest 1 (s .credits)
     then lineTests l
     then sumTests (s .credits) l

@@ -1,0 +1,184 @@
+//! The comparison with the vector files, one function a file: how many cases agree, or the first that does not.
+
+use crate::json::{self, Json};
+use crate::ledger::{self, Ledger};
+use crate::lines::{Agent, MonthLines, Point, User};
+use crate::program::{check_run, events, settle, Event};
+use crate::read::{check_text, read_month, Capacity};
+use crate::refusals::Refusal;
+use crate::share::share_c;
+use crate::table::is_table;
+
+/// A file's name and the comparison of one of its lines.
+pub type VectorFile = (&'static str, fn(&Json) -> Result<(), String>);
+
+pub const VECTOR_FILES: [VectorFile; 5] = [
+    ("shares.jsonl", share),
+    ("openings.jsonl", opening),
+    ("closings.jsonl", closing),
+    ("readings.jsonl", reading),
+    ("runs.jsonl", run),
+];
+
+/// Compares every line of a file's text; the answer is their count.
+pub fn compare(text: &str, case: fn(&Json) -> Result<(), String>) -> Result<usize, String> {
+    let mut count = 0;
+    for line in text.lines() {
+        count += 1;
+        json::parse(line).and_then(|vector| case(&vector)).map_err(|why| format!("line {}: {}", count, why))?;
+    }
+    Ok(count)
+}
+
+fn share(vector: &Json) -> Result<(), String> {
+    let [p, before, through, w, answer]: [i64; 5] = row(vector)?;
+    same("answer", &share_c(p, before, through, w), &answer)
+}
+
+fn opening(vector: &Json) -> Result<(), String> {
+    const MARK: i64 = -7;
+    let (users, agents) = (whole(vector, "users")?, whole(vector, "agents")?);
+    let mut held = vec![MARK; whole(vector, "held_len")?];
+    let (ledger, refused) = ledger::open(users, agents, &mut held);
+    same("ledger", &ledger, &ledger_of(field(vector, "ledger")?)?)?;
+    same("refusal", &refused, &refusal(field(vector, "refused")?)?)?;
+    let zeroed = if refused.is_none() { users as usize } else { 0 };
+    let as_it_should = held.iter().enumerate().all(|(j, &credit)| credit == if j < zeroed { 0 } else { MARK });
+    same("held slice", &as_it_should, &true)
+}
+
+fn closing(vector: &Json) -> Result<(), String> {
+    const MARK: i64 = -7;
+    let ledger = ledger_of(field(vector, "ledger")?)?;
+    let held: Vec<i64> = numbers(field(vector, "held")?)?;
+    let lines = month_lines(vector)?;
+    let mut after = held.clone();
+    let mut cells = vec![MARK; whole(vector, "cells_len")?];
+    let (moved, answer) = ledger::close(ledger, &mut after, &lines, &mut cells, whole(vector, "work_len")?);
+    let expect = field(vector, "expect")?;
+    let amounts = match answer {
+        Err(refused) => {
+            same("refusal", &Some(refused), &refusal(field(expect, "refused")?)?)?;
+            same("ledger", &moved, &ledger)?;
+            same("held slice", &after, &held)?;
+            return same("cells untouched", &cells.iter().all(|&cell| cell == MARK), &true);
+        }
+        Ok(amounts) => amounts,
+    };
+    let expect = field(expect, "accepted")?;
+    let (charges, credits) = (&amounts.charges, &amounts.credits);
+    let lists = [
+        ("eust", &charges.eust),
+        ("overrun", &charges.overrun),
+        ("vme", &charges.vme),
+        ("cpv", &charges.cpv),
+        ("n", &charges.n),
+        ("vd", &charges.vd),
+        ("held", &charges.held),
+        ("vmst", &credits.vmst),
+        ("vmpa", &credits.vmpa),
+        ("vmant", &credits.vmant),
+        ("vc", &credits.vc),
+    ];
+    for (name, amounts) in lists {
+        same(name, amounts, &numbers(field(expect, name)?)?)?;
+    }
+    same("smse", &credits.smse, &whole(expect, "smse")?)?;
+    same("ledger", &moved, &Ledger { month: lines.month as u64, ..ledger })?;
+    let users = lines.users.len();
+    let new: Vec<i128> = after[..users].iter().map(|&credit| credit.into()).collect();
+    same("new held credits", &new, &charges.held)?;
+    same("held entries beyond", &after[users..], &held[users..])?;
+    let (table, beyond) = cells.split_at(credits.vc.len() * users);
+    is_table(&credits.vc, &charges.vd, table)?;
+    same("cells beyond", &beyond.iter().all(|&cell| cell == MARK), &true)
+}
+
+fn reading(vector: &Json) -> Result<(), String> {
+    let text = field(vector, "text")?.text().ok_or("text is no text")?;
+    let [agents, users, points]: [usize; 3] = row(field(vector, "capacity")?)?;
+    let answer = read_month(text, whole(vector, "position")?, Capacity { agents, users, points });
+    same("check", &check_text(text), &whole(vector, "check")?)?;
+    let expect = field(vector, "expect")?;
+    match answer {
+        Err(refused) => same("refusal", &Some(refused), &refusal(field(expect, "refused")?)?),
+        Ok((lines, next)) => {
+            same("lines", &lines, &month_lines(expect)?)?;
+            same("next position", &next, &whole(expect, "position")?)
+        }
+    }
+}
+
+fn run(vector: &Json) -> Result<(), String> {
+    let text = field(vector, "text")?.text().ok_or("text is no text")?;
+    let expected: Vec<Event> = each(field(vector, "events")?, event)?;
+    same("events", &events(text), &expected)?;
+    check_run(text, &settle(text))
+}
+
+fn event(event: &Json) -> Result<Event, String> {
+    if let Some(refused) = event.field("refused") {
+        return Ok(Event::Refused(refusal(refused)?.ok_or("an event refused by nothing")?));
+    }
+    Ok(Event::Closed {
+        month: whole(event, "month")?,
+        vc: numbers(field(event, "vc")?)?,
+        vd: numbers(field(event, "vd")?)?,
+        held: numbers(field(event, "held")?)?,
+    })
+}
+
+fn month_lines(record: &Json) -> Result<MonthLines, String> {
+    Ok(MonthLines {
+        month: whole(record, "month")?,
+        ons: whole(record, "ons")?,
+        agents: each(field(record, "agents")?, |line| row(line).map(Agent::from_columns))?,
+        users: each(field(record, "users")?, |line| row(line).map(User::from_columns))?,
+        points: each(field(record, "points")?, |line| row(line).map(Point::from_columns))?,
+    })
+}
+
+fn ledger_of(list: &Json) -> Result<Ledger, String> {
+    row(list).map(|[users, agents, month]| Ledger { users, agents, month })
+}
+
+fn refusal(pair: &Json) -> Result<Option<Refusal>, String> {
+    match pair {
+        Json::Null => Ok(None),
+        _ => row(pair).map(|[number, place]| Some(Refusal { number, place })),
+    }
+}
+
+fn field<'a>(record: &'a Json, name: &str) -> Result<&'a Json, String> {
+    record.field(name).ok_or_else(|| format!("no field {}", name))
+}
+
+fn whole<N: TryFrom<i128>>(record: &Json, name: &str) -> Result<N, String> {
+    number(field(record, name)?).map_err(|why| format!("{}: {}", name, why))
+}
+
+fn number<N: TryFrom<i128>>(value: &Json) -> Result<N, String> {
+    let number = value.number().ok_or("no number")?;
+    N::try_from(number).map_err(|_| format!("{} does not fit", number))
+}
+
+fn numbers<N: TryFrom<i128>>(list: &Json) -> Result<Vec<N>, String> {
+    each(list, number)
+}
+
+/// A list of so many numbers.
+fn row<N: TryFrom<i128>, const COLUMNS: usize>(list: &Json) -> Result<[N; COLUMNS], String> {
+    <[N; COLUMNS]>::try_from(numbers(list)?).map_err(|list| format!("{} numbers and not {}", list.len(), COLUMNS))
+}
+
+fn each<T>(list: &Json, item: impl Fn(&Json) -> Result<T, String>) -> Result<Vec<T>, String> {
+    list.list().ok_or("no list")?.iter().map(item).collect()
+}
+
+fn same<T: PartialEq + std::fmt::Debug + ?Sized>(what: &str, found: &T, expected: &T) -> Result<(), String> {
+    if found == expected {
+        Ok(())
+    } else {
+        Err(format!("{}: {:?} and not {:?}", what, found, expected))
+    }
+}
