@@ -55,10 +55,20 @@ either {x = x} {S} w (rounded-down e) t = rw e (word (w .low) (omega arith) t)
 either {x = x} {S} w (rounded-up e z) t = rw e (word (omega (arith, add# (floor x S) (pos 1))) (omega (arith, add# (floor x S) (pos 1))) t)
 
 -- once test 10 is passed too
-pub cell-bounds : {credits : List ℤ} {l : Lines} → length credits ≡ length (l .users) → ChargeBounds credits l → CreditBounds credits l → sumℤ (VDs credits l) ≢ pos 0 → CellBounds credits l
+pub cell-bounds :
+    {credits : List ℤ} {l : Lines}
+    → length credits ≡ length (l .users)
+    → ChargeBounds credits l
+    → CreditBounds credits l
+    → sumℤ (VDs credits l) ≢ pos 0
+    → CellBounds credits l
 cell-bounds {credits} {l} w b c z = record { floor-at = at; cell-at = λ i j h k. λ v. either (at i j h k) v tt }
   where
-    at : (i j : ℕ) → i < suc (length (l .agents)) → j < length (l .users) → Word 1792400000000000 1792400000000000 (floor (getD (VCs credits l) i (pos 0) *ℤ getD (VDs credits l) j (pos 0)) (sumℤ (VDs credits l)))
+    at :
+        (i j : ℕ)
+        → i < suc (length (l .agents))
+        → j < length (l .users)
+        → Word 1792400000000000 1792400000000000 (floor (getD (VCs credits l) i (pos 0) *ℤ getD (VDs credits l) j (pos 0)) (sumℤ (VDs credits l)))
     at i j h k =
         word-within 1792400000000000 _
         (floor-share (getD (VCs credits l) i (pos 0)) (getD (VDs credits l) j (pos 0)) (sumℤ (VDs credits l))

@@ -4,6 +4,7 @@ use Prim.Native.Nat.{ℕ, _+_, _^_}
 use mathlib.Core.Path.{_≡_, refl}
 use mathlib.Core.List.{List, [], _∷_, _++_, map}
 use lib.IntN.{ℤ, pos, negℤ}
+use lib.ListN.{replicate}
 use Rattle.ints.specs.Floor.{floor}
 use Rattle.ints.specs.Range.{outside}
 use Rattle.ints.specs.Sums.{sumℤ}
@@ -74,9 +75,10 @@ unfoldable pub bySelf : List Case
 bySelf =
     -- nothing wrong
     (close (lines (a1 ∷ []) (u1 ∷ []) (p1 ∷ [])), accepted)
-    -- 1: no user lines; a count unlike the ledger's; a last closed month that is not possible; an opening for none, for too many
+    -- 1: no user lines; a count unlike the ledger's; 1,025 points; a last closed month that is not possible; an opening for none, for too many
     ∷ (close (lines (a1 ∷ []) [] []), refused 1 0)
     ∷ (close (lines (a1 ∷ []) (u1 ∷ u2 ∷ []) (p1 ∷ [])), refused 1 0)
+    ∷ (close (lines (a1 ∷ []) (u1 ∷ []) (replicate 1025 p1)), refused 1 0)
     ∷ (refusal (record { users = 1; agents = 1; month = pos 202400; credits = pos 0 ∷ [] }) room (lines (a1 ∷ []) (u1 ∷ []) (p1 ∷ [])), refused 1 0)
     ∷ (openingRefusal 0 1 5, refused 1 0)
     ∷ (openingRefusal 513 1 513, refused 1 0)
