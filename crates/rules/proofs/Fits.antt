@@ -1,0 +1,126 @@
+-- A month and lines with every value in its range: what the tests for 3, 5, 6 and 7 tell of those that they let pass.
+use Prim.Native.Nat.{ℕ}
+use mathlib.Core.Path.{_≡_}
+use mathlib.Core.Bool.{false}
+use mathlib.Core.List.{List}
+use lib.IntN.{ℤ, pos, negsuc}
+use lib.ListN.{length}
+use borrow.Author.Tests.{not-false}
+use Rattle.ints.specs.Range.{outside, Within, or-false, outside-false, eqZ-true}
+use Rattle.rules.specs.declared.Point.{Point}
+use Rattle.rules.specs.Verdict.{accepted}
+use Rattle.rules.specs.Calendar.{monthOfYear, impossibleMonth}
+use Rattle.rules.specs.Lines.{Agent, User, kindOf, badAgent, badUser, badPoint, unfitPoint}
+use Rattle.rules.specs.Refusals.{pointTest}
+use Rattle.rules.proofs.Tests.{when-accepted, when-then}
+
+-- the ranges of a month's values
+abbrev pub Amount : ℤ → Type 0
+Amount x = Within (pos 0) (pos 100000000000) x
+
+abbrev pub Correction : ℤ → Type 0
+Correction x = Within (negsuc 99999999999) (pos 100000000000) x
+
+abbrev pub Tariff : ℤ → Type 0
+Tariff x = Within (pos 0) (pos 100000) x
+
+abbrev pub Discount : ℤ → Type 0
+Discount x = Within (pos 0) (pos 100) x
+
+abbrev pub Power : ℤ → Type 0
+Power x = Within (pos 0) (pos 20000000) x
+
+-- a month that there is
+pub record Possible (m : ℤ) : Type 0 where
+  pub year : Within (pos 200001) (pos 209912) m
+  pub mm : Within (pos 1) (pos 12) (monthOfYear m)
+
+pub possible : (m : ℤ) → impossibleMonth m ≡ false → Possible m
+unfolding impossibleMonth
+possible m e = let f = or-false _ _ e in record { year = outside-false _ _ _ (f .0); mm = outside-false _ _ _ (f .1) }
+
+-- the agent line at the position k, from 1
+pub record AgentFits (k : ℕ) (a : Agent) : Type 0 where
+  pub number : a .number ≡ pos k
+  pub pb : Amount (a .pb)
+  pub pv : Amount (a .pv)
+  pub afs : Amount (a .afs)
+  pub rfs : Amount (a .rfs)
+  pub pa : Correction (a .pa)
+  pub ret : Correction (a .ret)
+
+pub agent-fits : (k : ℕ) (a : Agent) → badAgent k a ≡ false → AgentFits k a
+unfolding badAgent
+agent-fits k a e =
+    let e₆ = or-false _ _ e in
+    let e₅ = or-false _ _ (e₆ .0) in
+    let e₄ = or-false _ _ (e₅ .0) in
+    let e₃ = or-false _ _ (e₄ .0) in
+    let e₂ = or-false _ _ (e₃ .0) in
+    let e₁ = or-false _ _ (e₂ .0) in
+    record {
+      number = eqZ-true _ _ (not-false _ (e₁ .0));
+      pb = outside-false _ _ _ (e₁ .1);
+      pv = outside-false _ _ _ (e₂ .1);
+      afs = outside-false _ _ _ (e₃ .1);
+      rfs = outside-false _ _ _ (e₄ .1);
+      pa = outside-false _ _ _ (e₅ .1);
+      ret = outside-false _ _ _ (e₆ .1);
+    }
+
+-- the user line at the position k, from 1
+pub record UserFits (k : ℕ) (u : User) : Type 0 where
+  pub number : u .number ≡ pos k
+  pub kind : Within (pos 1) (pos 3) (u .kind)
+  pub ret : Correction (u .ret)
+
+pub user-fits : (k : ℕ) (u : User) → badUser k u ≡ false → UserFits k u
+unfolding badUser
+user-fits k u e =
+    let e₂ = or-false _ _ e in
+    let e₁ = or-false _ _ (e₂ .0) in
+    record { number = eqZ-true _ _ (not-false _ (e₁ .0)); kind = outside-false _ _ _ (e₁ .1); ret = outside-false _ _ _ (e₂ .1) }
+
+-- a point's own values
+pub record PointFits (p : Point) : Type 0 where
+  pub tp : Tariff (p .tp)
+  pub tf : Tariff (p .tf)
+  pub dp : Discount (p .dp)
+  pub df : Discount (p .df)
+  pub mp : Power (p .mp)
+  pub mf : Power (p .mf)
+  pub vp : Power (p .vp)
+  pub vf : Power (p .vf)
+
+pub point-fits : (p : Point) → badPoint p ≡ false → PointFits p
+unfolding badPoint
+point-fits p e =
+    let e₇ = or-false _ _ e in
+    let e₆ = or-false _ _ (e₇ .0) in
+    let e₅ = or-false _ _ (e₆ .0) in
+    let e₄ = or-false _ _ (e₅ .0) in
+    let e₃ = or-false _ _ (e₄ .0) in
+    let e₂ = or-false _ _ (e₃ .0) in
+    let e₁ = or-false _ _ (e₂ .0) in
+    record {
+      tp = outside-false _ _ _ (e₁ .0);
+      tf = outside-false _ _ _ (e₁ .1);
+      dp = outside-false _ _ _ (e₂ .1);
+      df = outside-false _ _ _ (e₃ .1);
+      mp = outside-false _ _ _ (e₄ .1);
+      mf = outside-false _ _ _ (e₅ .1);
+      vp = outside-false _ _ _ (e₆ .1);
+      vf = outside-false _ _ _ (e₇ .1);
+    }
+
+-- a point among these users
+pub record PointPassed (users : List User) (p : Point) : Type 0 where
+  pub values : PointFits p
+  pub user : Within (pos 1) (pos (length users)) (p .user)
+  pub fit : unfitPoint (kindOf users (p .user)) p ≡ false
+
+pub point-passed : (users : List User) (k : ℕ) (p : Point) → pointTest users k p ≡ accepted → PointPassed users p
+point-passed users k p e =
+    let a = when-then (badPoint p) 5 k _ e in
+    let b = when-then (outside (pos 1) (pos (length users)) (p .user)) 6 k _ (a .1) in
+    record { values = point-fits p (a .0); user = outside-false _ _ _ (b .0); fit = when-accepted _ 7 k (b .1) }

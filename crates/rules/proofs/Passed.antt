@@ -1,0 +1,181 @@
+-- A closing that nothing refuses has passed every test of paper 01's refusals 1 to 10: what is known of it from then on.
+use Prim.Native.Nat.{ℕ, suc, _≤_, _<_}
+use mathlib.Core.Path.{_≡_, refl}
+use mathlib.Core.Logic.{_≢_}
+use mathlib.Core.Bool.{Bool, true, false, not, _||_}
+use mathlib.Core.List.{List, [], map}
+use native.Mathlib.Omega.{arith}
+use lib.Dec.{T, eqb, ltb}
+use lib.IntN.{ℤ, pos}
+use lib.ListN.{length, getD}
+use lib.Signed.{_<ℤ_, ltZ}
+use borrow.Author.Tests.{ltb-false, eqb-true, eqb-false, not-false}
+use Rattle.ints.specs.Bridge.{leZ-false, lt-out}
+use Rattle.ints.specs.Range.{Within, or-false, outside-false, eqZ, eqZ-true, eqZ-false}
+use Rattle.ints.specs.Sums.{sumℤ}
+use Rattle.rules.specs.Verdict.{accepted, eachLine}
+use Rattle.rules.specs.Lines.{Agent, Lines, agentOf, userOf, pointOf}
+use Rattle.rules.specs.Charges.{pvTotal, EUSTs, VDs}
+use Rattle.rules.specs.Refusals.{State, Lengths, badCounts, cellsNeeded, workNeeded, shortSlices, badMonth, creditTest, agentTest, userTest, pointTest, lineTests, sumTests, refusal}
+use Rattle.rules.proofs.Tests.{then-accepted, when-accepted, when-then, and-false, each-from-1}
+use Rattle.rules.proofs.Fits.{Amount, Possible, possible, AgentFits, agent-fits, UserFits, user-fits, PointPassed, point-passed}
+
+-- every test of closing was passed
+pub record Passed (s : State) (n : Lengths) (l : Lines) : Type 0 where
+  -- 1: counts within their limits and the ledger's, and a last closed month that is 0 or possible
+  pub users : length (l .users) ≡ s .users
+  pub agents : length (l .agents) ≡ s .agents
+  pub some-users : 0 < s .users
+  pub few-users : s .users ≤ 512
+  pub some-agents : 0 < s .agents
+  pub few-agents : s .agents ≤ 256
+  pub few-points : length (l .points) ≤ 1024
+  pub last-month : s .month ≢ pos 0 → Possible (s .month)
+  -- 2: no slice too short
+  pub held : s .users ≤ n .held
+  pub cells : cellsNeeded (s .users) (s .agents) ≤ n .cells
+  pub work : workNeeded (s .users) (s .agents) ≤ n .work
+  -- 3: the month is possible, and later than the last closed
+  pub month : Possible (l .month)
+  pub later : s .month <ℤ l .month
+  -- 4: each held credit
+  pub credits : (j : ℕ) → j < length (s .credits) → Within (pos 0) (pos 100000000000000000) (getD (s .credits) j (pos 0))
+  -- 5, 6, 7: each line, counted from 0
+  pub ons : Amount (l .ons)
+  pub agent : (i : ℕ) → i < length (l .agents) → AgentFits (suc i) (getD (l .agents) i (agentOf []))
+  pub user : (j : ℕ) → j < length (l .users) → UserFits (suc j) (getD (l .users) j (userOf []))
+  pub point : (k : ℕ) → k < length (l .points) → PointPassed (l .users) (getD (l .points) k (pointOf []))
+  -- 8, 9, 10: the sums that are divided by
+  pub pb-total : sumℤ (map (λ (a : Agent). a .pb) (l .agents)) ≢ pos 0
+  pub EUST-total : pos 0 <ℤ pvTotal l → sumℤ (EUSTs l) ≢ pos 0
+  pub VD-total : sumℤ (VDs (s .credits) l) ≢ pos 0
+
+-- a test that holds
+not-equal : (a b : ℤ) → a ≢ b → not (eqZ a b) ≡ true
+not-equal a b h = go (eqZ a b) refl
+  where
+    go : (t : Bool) → eqZ a b ≡ t → not t ≡ true
+    go true e = absurd (h (eqZ-true a b e))
+    go false e = refl
+
+T-true : (t : Bool) → T t → t ≡ true
+T-true true h = refl
+T-true false h = absurd h
+
+ltZ-is : {a b : ℤ} → a <ℤ b → ltZ a b ≡ true
+ltZ-is h = T-true _ (h .lt)
+
+-- ---- what the parts of `refusal` tell
+between : (n most : ℕ) → (eqb n 0 || ltb most n) ≡ false → (0 < n) × (n ≤ most)
+between n most e =
+    let f = or-false (eqb n 0) (ltb most n) e in
+    let z : n ≡ 0 → ⊥ = eqb-false n 0 (f .0) in
+    (omega (arith, z), ltb-false most n (f .1))
+
+record Counts (s : State) (l : Lines) : Type 0 where
+  users-between : (0 < length (l .users)) × (length (l .users) ≤ 512)
+  agents-between : (0 < length (l .agents)) × (length (l .agents) ≤ 256)
+  points : length (l .points) ≤ 1024
+  users : length (l .users) ≡ s .users
+  agents : length (l .agents) ≡ s .agents
+  last-month : s .month ≢ pos 0 → Possible (s .month)
+
+counts : (s : State) (l : Lines) → badCounts s (length (l .users)) (length (l .agents)) (length (l .points)) ≡ false → Counts s l
+unfolding badCounts
+counts s l e =
+    let e₅ = or-false _ _ e in
+    let e₄ = or-false _ _ (e₅ .0) in
+    let e₃ = or-false _ _ (e₄ .0) in
+    let e₂ = or-false _ _ (e₃ .0) in
+    let e₁ = or-false _ _ (e₂ .0) in
+    record {
+      users-between = between _ 512 (e₁ .0);
+      agents-between = between _ 256 (e₁ .1);
+      points = ltb-false _ _ (e₂ .1);
+      users = eqb-true _ _ (not-false _ (e₃ .1));
+      agents = eqb-true _ _ (not-false _ (e₄ .1));
+      last-month = λ z. possible _ (and-false _ _ (e₅ .1) (not-equal _ _ z));
+    }
+
+slices :
+    (s : State) (n : Lengths)
+    → shortSlices s n ≡ accepted
+    → (s .users ≤ n .held) × (cellsNeeded (s .users) (s .agents) ≤ n .cells) × (workNeeded (s .users) (s .agents) ≤ n .work)
+unfolding shortSlices
+slices s n e =
+    let a = when-then _ 2 1 _ e in
+    let b = when-then _ 2 2 _ (a .1) in
+    (ltb-false _ _ (a .0), ltb-false _ _ (b .0), ltb-false _ _ (when-accepted _ 2 3 (b .1)))
+
+month-after : (s : State) (l : Lines) → badMonth (s .month) (l .month) ≡ false → Possible (l .month) × (s .month <ℤ l .month)
+unfolding badMonth
+month-after s l e = let f = or-false _ _ e in (possible _ (f .0), lt-out (leZ-false (l .month) (s .month) (f .1)))
+
+record LinesPassed (l : Lines) : Type 0 where
+  ons : Amount (l .ons)
+  agent : (i : ℕ) → i < length (l .agents) → AgentFits (suc i) (getD (l .agents) i (agentOf []))
+  user : (j : ℕ) → j < length (l .users) → UserFits (suc j) (getD (l .users) j (userOf []))
+  point : (k : ℕ) → k < length (l .points) → PointPassed (l .users) (getD (l .points) k (pointOf []))
+
+lines-passed : (l : Lines) → lineTests l ≡ accepted → LinesPassed l
+unfolding lineTests
+lines-passed l e =
+    let a = when-then _ 5 0 _ e in
+    let b = then-accepted (eachLine agentTest 1 (l .agents)) _ (a .1) in
+    let c = then-accepted (eachLine userTest 1 (l .users)) _ (b .1) in
+    record {
+      ons = outside-false _ _ _ (a .0);
+      agent = λ i h. agent-fits _ _ (when-accepted _ 5 (suc i) (each-from-1 agentTest (l .agents) (agentOf []) (b .0) i h));
+      user = λ j h. user-fits _ _ (when-accepted _ 5 (suc j) (each-from-1 userTest (l .users) (userOf []) (c .0) j h));
+      point = λ k h. point-passed (l .users) (suc k) _ (each-from-1 (pointTest (l .users)) (l .points) (pointOf []) (c .1) k h);
+    }
+
+sums :
+    (credits : List ℤ) (l : Lines)
+    → sumTests credits l ≡ accepted
+    → (sumℤ (map (λ (a : Agent). a .pb) (l .agents)) ≢ pos 0)
+    × (pos 0 <ℤ pvTotal l → sumℤ (EUSTs l) ≢ pos 0)
+    × (sumℤ (VDs credits l) ≢ pos 0)
+unfolding sumTests
+sums credits l e =
+    let a = when-then _ 8 0 _ e in
+    let b = when-then _ 9 0 _ (a .1) in
+    (eqZ-false _ _ (a .0), λ h. eqZ-false _ _ (and-false _ _ (b .0) (ltZ-is h)), eqZ-false _ _ (when-accepted _ 10 0 (b .1)))
+
+-- closing's refusals, taken apart
+pub passed : (s : State) (n : Lengths) (l : Lines) → refusal s n l ≡ accepted → Passed s n l
+unfolding refusal
+passed s n l e =
+    let a = when-then (badCounts s (length (l .users)) (length (l .agents)) (length (l .points))) 1 0 _ e in
+    let b = then-accepted (shortSlices s n) _ (a .1) in
+    let c = when-then (badMonth (s .month) (l .month)) 3 0 _ (b .1) in
+    let d = then-accepted (eachLine creditTest 1 (s .credits)) _ (c .1) in
+    let f = then-accepted (lineTests l) _ (d .1) in
+    let first = counts s l (a .0) in
+    let second = slices s n (b .0) in
+    let third = month-after s l (c .0) in
+    let lines = lines-passed l (f .0) in
+    let last = sums (s .credits) l (f .1) in
+    record {
+      users = first .users;
+      agents = first .agents;
+      some-users = omega (arith, first .users, first .users-between);
+      few-users = omega (arith, first .users, first .users-between);
+      some-agents = omega (arith, first .agents, first .agents-between);
+      few-agents = omega (arith, first .agents, first .agents-between);
+      few-points = first .points;
+      last-month = first .last-month;
+      held = second .0;
+      cells = second .1;
+      work = second .2;
+      month = third .0;
+      later = third .1;
+      credits = λ j h. outside-false _ _ _ (when-accepted _ 4 (suc j) (each-from-1 creditTest (s .credits) (pos 0) (d .0) j h));
+      ons = lines .ons;
+      agent = lines .agent;
+      user = lines .user;
+      point = lines .point;
+      pb-total = last .0;
+      EUST-total = last .1;
+      VD-total = last .2;
+    }
