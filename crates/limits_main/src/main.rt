@@ -167,13 +167,21 @@ fn month_after(line: u64, x: i64) -> Answer {
     tested(limits::months::bad_month(last, x), 3)
 }
 
+// x as ons, before a bad second agent and a bad first user.
+fn ons_with(x: i64) -> Answer {
+    let agents = [[1, 7, 0, 0, 0, 0, 0], [2, -1, 0, 0, 0, 0, 0]];
+    let users = [[1, 4, 0]];
+    limits::lines::lines_before_points(x, &agents, &users)
+}
+
 fn answer(block: u64, line: u64, column: usize, x: i64) -> Answer {
     match block {
         0 => credits_with(line, x),
         1 => agents_with(line, column, x),
         2 => users_with(line, column, x),
         3 => points_with(line, column, x),
-        _ => month_after(line, x),
+        4 => month_after(line, x),
+        _ => ons_with(x),
     }
 }
 
@@ -241,4 +249,5 @@ fn main() {
     rows(2, 3);
     rows(3, 9);
     rows(4, 1);
+    row(5, 1, 0);
 }

@@ -134,6 +134,18 @@ fn slices() -> String {
     cases.concat() + "\n"
 }
 
+/// The ons line comes before a bad second agent and a bad first user.
+fn ons() -> String {
+    let answer = |value| {
+        let mut case = Case::new(2, 1);
+        case.lines.ons = value;
+        case.lines.agents[1].pb = -1;
+        case.lines.users[0].kind = 4;
+        case.answer()
+    };
+    VALUES.map(answer).concat() + "\n"
+}
+
 fn printed() -> String {
     let mut text = String::new();
     for month in [0, 202_406, 202_413] {
@@ -161,7 +173,7 @@ fn printed() -> String {
         case.ledger.month = [0, 202_406, 202_412][line];
         case.lines.month = value;
     });
-    text
+    text + &ons()
 }
 
 #[test]
