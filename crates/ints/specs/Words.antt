@@ -1,14 +1,18 @@
 -- What the machine adds: a signed local holds bits, so that each operand is read back from them, `toZ w64 (ofZ w64 x)`, which is x where x fits.
-use mathlib.Core.Path.{_≡_, sym, ap, _∙_}
+use mathlib.Core.Path.{_≡_, refl, sym, ap, _∙_}
+use mathlib.Core.Bool.{Bool, true, false}
 use Prim.Native.Nat.{ℕ, suc, _/_, _%_, _≤_, _<_, _^_}
 use native.Mathlib.Omega.{arith}
+use borrow.Author.Tests.{eq-eqb, ne-eqb}
+use lib.Dec.{T, eqb, ltb}
 use lib.IntN.{ℤ, pos, negsuc, natAbs}
 use lib.Signed.{quotZ, remZ, _<ℤ_}
 use native.Mathlib.Nat.{div-le-self, mod-le}
 use mir.Syntax.{w64}
 use mir.Val.{SFits, toZ, ofZ}
-use mir.Facts.{toZ-ofZ, toZ-pos}
+use mir.Facts.{toZ-ofZ, toZ-pos, sfits-lit}
 use Rattle.ints.specs.Bridge.{up, dn, abs, za, neg#}
+use Rattle.ints.specs.Range.{eqZ, eqZ-true, eqZ-false}
 
 -- what stands in a need for an operand x
 abbrev pub back : ℤ → ℤ
@@ -28,6 +32,17 @@ same-bits {x} {y} f g e = sym (toZ-ofZ f) ∙ ap (toZ w64) e ∙ toZ-ofZ g
 
 pub other-bits : {x y : ℤ} → (ofZ w64 x ≡ ofZ w64 y → ⊥) → x ≡ y → ⊥
 other-bits h e = h (ap (ofZ w64) e)
+
+-- so it is the test of the numbers
+pub eqb-bits : {x y : ℤ} → SFits w64 x → SFits w64 y → eqb (ofZ w64 x) (ofZ w64 y) ≡ eqZ x y
+eqb-bits {x} {y} f g = go (eqZ x y) refl
+  where
+    go : (t : Bool) → eqZ x y ≡ t → eqb (ofZ w64 x) (ofZ w64 y) ≡ t
+    go true e = eq-eqb (ofZ w64 x) (ofZ w64 y) (ap (ofZ w64) (eqZ-true x y e))
+    go false e = ne-eqb (ofZ w64 x) (ofZ w64 y) (λ b. eqZ-false x y e (same-bits f g b))
+
+pub eqb-word : {x : ℤ} (n : ℕ) → T (ltb n (2 ^ 63)) → SFits w64 x → eqb (ofZ w64 x) n ≡ eqZ x (pos n)
+eqb-word n t f = eqb-bits f (sfits-lit t)
 
 -- a literal's bits, and those of a number that was cast from `u64`
 pub toZ# : (n : ℕ) → n < 2 ^ 63 → Back (pos n) (toZ w64 n)
