@@ -1,18 +1,15 @@
--- Moved up by s, divisor and dividend are both times S = 2^s; two digits of the quotient follow, and the remainder is times S too.
+-- Moved up by s, divisor and dividend are both times S = 2^s: the quotient stays, and the remainder is times S too.
 use Prim.Native.Nat.{ℕ, suc, _+_, _*_, _-_, _/_, _%_, _^_, _≤_, _<_}
 use native.Mathlib.Omega.{arith}
 use native.Mathlib.Nat.{mul-le-mul-right, mul-lt-mul-of-pos-right, lt-trans, div-add-mod', mod-lt, mod-eq-of-lt, div-lt-iff-lt-mul, mul-add-div-right, mul-div-cancel}
-use mathlib.Core.Path.{_≡_, sym, ap, _∙_, subst, subst⁻¹}
-use lib.Arith.{digits-div, digits-mod}
+use mathlib.Core.Path.{_≡_, sym, ap, _∙_, subst}
+use lib.Arith.{digits-mod}
 use lib.Count.{leadingZeros, leading-top}
-use lib.Pow.{pow-pos, pow-add, shr-lt}
+use lib.Pow.{pow-pos, pow-add}
 use mir.Syntax.{w64}
 use mir.Val.{Fits}
-use mir.Facts.{fits-shl, fits-cat}
 use borrow.Author.Needs.{needs}
-use Rattle.wide.specs.declared.Divided.{Divided}
-use Rattle.wide.specs.Exact.{divided}
-use Rattle.wide.proofs.Laws.{divided-is}
+use Rattle.wide.proofs.Laws.{Divides, divides, divided-is}
 use Rattle.wide.proofs.quotient.divide.Statement.{statement}
 use Rattle.wide.proofs.quotient.divide.Tie as tie
 
@@ -75,34 +72,15 @@ moved c h l S T u S-pos T-pos h-lt l-lt =
       all = rw (h-is, m-is) (sum-up (2 ^ 64) h e (f * S) l S l-is);
     }
 
--- two digits of long division, of a dividend n·S and the divisor c·S
-module _ (n c S x m v d1 d0 q1 r1 q0 r0 : ℕ) (S-pos : 0 < S) (v-is : v ≡ c * S) (all : x * 2 ^ 64 + m ≡ n * S) (m-is : d1 * 2 ^ 32 + d0 ≡ m) (one : q1 * v + r1 ≡ x * 2 ^ 32 + d1) (two : q0 * v + r0 ≡ r1 * 2 ^ 32 + d0) where
-  long : (q1 * 2 ^ 32 + q0) * v + r0 ≡ n * S
-  long = omega (arith, one, two, all, m-is)
-
-  back : (q1 * 2 ^ 32 + q0) * c + r0 / S ≡ n
+-- back down: a quotient q and a remainder r of n·S over v = c·S
+module _ (n c S v q r : ℕ) (S-pos : 0 < S) (v-is : v ≡ c * S) (whole : q * v + r ≡ n * S) where
+  back : q * c + r / S ≡ n
   back =
-      let k : (q1 * 2 ^ 32 + q0) * c * S + r0 ≡ n * S = omega (arith, long, ap (λ (t : ℕ). (q1 * 2 ^ 32 + q0) * t) v-is) in
-      sym (mul-add-div-right S-pos ((q1 * 2 ^ 32 + q0) * c) r0) ∙ ap (λ (t : ℕ). t / S) k ∙ mul-div-cancel n S-pos
+      let k : q * c * S + r ≡ n * S = omega (arith, whole, ap (λ (t : ℕ). q * t) v-is) in
+      sym (mul-add-div-right S-pos (q * c) r) ∙ ap (λ (t : ℕ). t / S) k ∙ mul-div-cancel n S-pos
 
-  back-lt : r0 < v → r0 / S < c
-  back-lt h = div-lt-iff-lt-mul S-pos .1 (subst (λ (t : ℕ). r0 < t) v-is h)
-
--- what `digit` answers: below 2^32, with a remainder below v
-record Digit (h d v : ℕ) (r : Divided) : Type 0 where
-  whole : r .quot * v + r .rem ≡ h * 2 ^ 32 + d
-  rem-lt : r .rem < v
-  quot-lt : r .quot < 2 ^ 32
-
-digit-is : (h d v : ℕ) (r : Divided) → h < v → d < 2 ^ 32 → r ≡ divided (h * 2 ^ 32 + d) v → Digit h d v r
-digit-is h d v r k j e =
-    let z : 0 < v = omega arith in
-    subst⁻¹ (λ (t : Divided). Digit h d v t) e
-    (record {
-      whole = div-add-mod' (h * 2 ^ 32 + d) v;
-      rem-lt = mod-lt (h * 2 ^ 32 + d) z;
-      quot-lt = div-lt-iff-lt-mul z .1 (omega arith);
-    })
+  back-lt : r < v → r / S < c
+  back-lt h = div-lt-iff-lt-mul S-pos .1 (subst (λ (t : ℕ). r < t) v-is h)
 
 -- at the places of the code
 positive : (c : tie.Start) → 0 < c .args .c
@@ -117,11 +95,10 @@ shift-fits c = omega (arith, shift-lt c)
 low-fits : (c : tie.Start) → c .args .n .low < 2 ^ 64
 low-fits c = let f : Fits w64 (c .args .n .low) = search needs in f .fits
 
-cast-v : tie.Need-cast-v
-cast-v c = shift-fits c
-
-shl-v : tie.Need-shl-v
-shl-v c = shift-lt c
+words : (c : tie.Start) → Moved (c .args .c) (c .args .n .high) (c .args .n .low) (2 ^ leadingZeros 64 (c .args .c)) (2 ^ (63 - leadingZeros 64 (c .args .c)))
+words c =
+    moved _ _ _ _ _ (up (c .args .c) (positive c) (c .fits .c .fits)) (pow-pos (leadingZeros 64 (c .args .c)))
+    (pow-pos (63 - leadingZeros 64 (c .args .c))) (c .pre) (low-fits c)
 
 cast-high : tie.Need-cast-high
 cast-high c = shift-fits c
@@ -138,94 +115,58 @@ cast-high-2 c = search needs
 shr-high : tie.Need-shr-high
 shr-high c = search needs
 
-words : (c : tie.Start) → Moved (c .args .c) (c .args .n .high) (c .args .n .low) (2 ^ leadingZeros 64 (c .args .c)) (2 ^ (63 - leadingZeros 64 (c .args .c)))
-words c = moved _ _ _ _ _ (up (c .args .c) (positive c) (c .fits .c .fits)) (pow-pos (leadingZeros 64 (c .args .c))) (pow-pos (63 - leadingZeros 64 (c .args .c))) (c .pre) (low-fits c)
-
 add-high : tie.Need-add-high
 add-high c = let w = words (c .before .before) in record { fits = lt-trans (w .x-lt) (w .v-lt) }
 
-cast-low : tie.Need-cast-low
-cast-low c = shift-fits (c .before .before)
+cast-normal : tie.Need-cast-normal
+cast-normal c = shift-fits (c .before .before)
 
-shl-low : tie.Need-shl-low
-shl-low c = shift-lt (c .before .before .before)
+shl-normal : tie.Need-shl-normal
+shl-normal c = shift-lt (c .before .before .before)
 
-high-half-requires : tie.Need-high-half-requires
-high-half-requires c κs = search needs
+cast-normal-2 : tie.Need-cast-normal-2
+cast-normal-2 c = shift-fits (c .before .before .before)
 
-upper-lt : (c : tie.After-high-half) → c .high-half .result < 2 ^ 32
-upper-lt c = rw (c .high-half .ensures) (shr-lt 32 32 (mod-lt _ (pow-pos 64)))
+shl-normal-2 : tie.Need-shl-normal-2
+shl-normal-2 c = shift-lt (c .before .before .before)
 
-digit-requires : tie.Need-digit-requires
-digit-requires c κs = let w = words (c .before .before .before .before) in (w .v-top, w .x-lt, upper-lt c)
+normal-requires : tie.Need-normal-requires
+normal-requires c κs = let w = words (c .before .before .before) in (w .v-top, w .x-lt)
 
-low-half-requires : tie.Need-low-half-requires
-low-half-requires c κs = search needs
+cast-t8 : tie.Need-cast-t8
+cast-t8 c = shift-fits (c .before .before .before .before)
 
--- the divisor moved up, and the high word of the dividend moved up
-abbrev v : tie.Start → ℕ
-v c = (c .args .c * 2 ^ leadingZeros 64 (c .args .c)) % 2 ^ 64
-
-abbrev x : tie.Start → ℕ
-x c = (c .args .n .high * 2 ^ leadingZeros 64 (c .args .c)) % 2 ^ 64 + c .args .n .low / 2 / 2 ^ (63 - leadingZeros 64 (c .args .c))
-
-first : (c : tie.After-digit) → Digit (x (c .before .before .before .before .before)) (c .before .high-half .result) (v (c .before .before .before .before .before)) (c .digit .result)
-first c = digit-is _ _ _ _ (words (c .before .before .before .before .before) .x-lt) (upper-lt (c .before)) (c .digit .ensures)
-
-lower-lt : (c : tie.After-low-half) → c .low-half .result < 2 ^ 32
-lower-lt c = rw (c .low-half .ensures) (mod-lt _ (pow-pos 32))
-
-digit-requires-2 : tie.Need-digit-requires-2
-digit-requires-2 c κs = (words (c .before .before .before .before .before .before) .v-top, first (c .before) .rem-lt, lower-lt c)
-
-second : (c : tie.After-digit2) → Digit (c .before .before .digit .result .rem) (c .before .low-half .result) (v (c .before .before .before .before .before .before .before)) (c .digit2 .result)
-second c = digit-is _ _ _ _ (first (c .before .before) .rem-lt) (lower-lt (c .before)) (c .digit2 .ensures)
-
-mul-t14 : tie.Need-mul-t14
-mul-t14 c = fits-shl 32 32 tt (first (c .before .before .before) .quot-lt)
-
-add-t9 : tie.Need-add-t9
-add-t9 c = fits-cat 32 32 tt (first (c .before .before .before .before) .quot-lt) (second (c .before .before) .quot-lt)
-
-cast-t13 : tie.Need-cast-t13
-cast-t13 c = shift-fits (c .before .before .before .before .before .before .before .before .before)
-
-shr-t10 : tie.Need-shr-t10
-shr-t10 c = shift-lt (c .before .before .before .before .before .before .before .before .before .before)
+shr-t7 : tie.Need-shr-t7
+shr-t7 c = shift-lt (c .before .before .before .before .before)
 
 returns : tie.Need-returns
 returns c =
-    let t = c .before .before .before in
-    let h = t .before .before .before in
-    let a = h .before .before .before .before in
-    let w = words a in
-    let S-pos = pow-pos (leadingZeros 64 (a .args .c)) in
-    let m-is : h .high-half .result * 2 ^ 32 + t .before .low-half .result ≡ (a .args .n .low * 2 ^ leadingZeros 64 (a .args .c)) % 2 ^ 64 =
-    rw (h .high-half .ensures, t .before .low-half .ensures) (div-add-mod' _ (2 ^ 32)) in
-    divided-is _ (a .args .c) _ (a .args .n .high * 2 ^ 64 + a .args .n .low)
-    (back _ (a .args .c) _ (x a) _ (v a) _ _ _ _ _ _ S-pos (w .v-is) (w .all) m-is (first (t .before .before) .whole) (second t .whole))
-    (back-lt (a .args .n .high * 2 ^ 64 + a .args .n .low) (a .args .c) _ (x a) _ (v a) _ _ _ _ _ _ S-pos (w .v-is) (w .all) m-is (first (t .before .before) .whole) (second t .whole) (second t .rem-lt))
+    let d = c .before in
+    let s = d .before .before .before .before in
+    let w = words s in
+    let S-pos = pow-pos (leadingZeros 64 (s .args .c)) in
+    let z : 0 < (s .args .c * 2 ^ leadingZeros 64 (s .args .c)) % 2 ^ 64 = omega (arith, w .v-top) in
+    let t = divides z (d .normal .ensures) in
+    let n = s .args .n .high * 2 ^ 64 + s .args .n .low in
+    divided-is _ (s .args .c) _ n
+    (back n (s .args .c) _ _ _ _ S-pos (w .v-is) (t .whole ∙ w .all))
+    (back-lt n (s .args .c) _ _ _ _ S-pos (w .v-is) (t .whole ∙ w .all) (t .small))
 
 pub divide-spec : {M : Type 1} → statement M
 divide-spec =
     tie.close
     (tie.spec
-    cast-v
-    shl-v
     cast-high
     shl-high
     sub-high
     cast-high-2
     shr-high
     add-high
-    cast-low
-    shl-low
-    high-half-requires
-    digit-requires
-    low-half-requires
-    digit-requires-2
-    mul-t14
-    add-t9
-    cast-t13
-    shr-t10
+    cast-normal
+    shl-normal
+    cast-normal-2
+    shl-normal-2
+    normal-requires
+    cast-t8
+    shr-t7
     returns)

@@ -1,0 +1,257 @@
+-- THE FILE CHECK'S PLACE IS READING'S: where reading, with slices as long as the text, reads file after file and one comes back, it comes
+-- back with 11, and the file check answers that place; and where no file comes back all are read. Assumes nothing.
+use Prim.Native.Nat.{ℕ, zero, suc, _+_, _-_, _≤_, _<_, min}
+use mathlib.Core.Path.{_≡_, refl, ap, sym, _∙_, subst}
+use mathlib.Core.Logic.{_↔_, _⊎_, inl, inr, ⊎-elim}
+use mathlib.Core.Bool.{Bool, true, false, cond, _&&_}
+use mathlib.Core.List.{List, [], _∷_}
+use native.Mathlib.Omega.{arith}
+use native.Mathlib.Decide.{decLe}
+use lib.Dec.{leb, eqb}
+use lib.ListN.{length, drop, length-drop}
+use lib.Seq.{drop-drop}
+use lib.IntN.{pos, negsuc}
+use borrow.Author.Tests.{leb-true}
+use Rattle.format.specs.Bytes.{startsLine}
+use Rattle.format.specs.Blocks.{free, slices}
+use Rattle.format.specs.Grammar.{line, File}
+use Rattle.format.specs.Machine.{State, stuck, at, value, isStuck, step, final, endsBefore, format, start, onward, Verdict, passes, fails, judge, number, checkOf}
+use Rattle.format.specs.Reading.{tooMany, scan, scanAt, Answer, accepted, refused, answer, reading, ReadsOn, last, then, ComesBack, here, further}
+use Rattle.format.specs.Counting.{many, after, capacity, full, counted, scanBy}
+use Rattle.format.specs.declared.Scanned.{Scanned}
+use Rattle.format.specs.declared.Scanned.the-variants.{Whole, Faulty, Full}
+use Rattle.format.proofs.Live.{not-both, both, sound-format}
+use Rattle.format.proofs.Accepts.{within, beyond}
+use Rattle.format.proofs.FileCheck.{check-within}
+use Rattle.format.proofs.Wide.{wide, wide-start, Wider, wider}
+use Rattle.format.proofs.Counts.{counts}
+use Rattle.format.proofs.FileByFile.{next-within, checked-by-reading}
+
+-- two verdicts are not one
+no-fault : (k p : ℕ) → Whole k ≡ Faulty p → ⊥
+no-fault k p e = let z : _≡_ {A = ℕ} 0 1 = cc in omega arith
+
+-- SLICES AS LONG AS THE TEXT ARE NEVER TOO SHORT: each line begun is a byte read
+module _ (room : ℕ → ℕ) where
+  full-room : (s : State) (n b : ℕ) → full room s n b ≡ true → (j : ℕ) × (room j ≤ n)
+  full-room stuck n b e = not-both false refl e
+  full-room (at f) n b e = (after f, leb-true (room (after f)) n (both (many f && startsLine b) (leb (room (after f)) n) e .1))
+  full-room (value p k f) n b e = not-both false refl e
+
+  one-more : (q : Bool) (n : ℕ) → cond q (n + 1) 0 ≤ n + 1
+  one-more true n = omega arith
+  one-more false n = omega arith
+
+  counted-most : (s : State) (n b : ℕ) → counted s n b ≤ n + 1
+  counted-most stuck n b = omega arith
+  counted-most (at f) n b = one-more (many f && startsLine b) n
+  counted-most (value p k f) n b = omega arith
+
+  full-late : (s : State) (n k : ℕ) (t : List ℕ) (q : ℕ) → scanBy room s n k t ≡ Full q → (j : ℕ) × (room j < n + length t)
+  unfolding scanBy
+  full-late s n k [] q e = by (final s) e
+    where
+      by : (f : Bool) → cond f (Whole k) (Faulty k) ≡ Full q → (j : ℕ) × (room j < n + 0)
+      by true e = let z : _≡_ {A = ℕ} 0 1 = cc in absurd (omega arith)
+      by false e = let z : _≡_ {A = ℕ} 0 1 = cc in absurd (omega arith)
+  full-late s n k (b ∷ t) q e =
+      by (endsBefore s b) (full room s n b) (isStuck (step s b)) refl e (full-late (step s b) (counted s n b) (k + 1) t q)
+    where
+      by : (o f d : Bool) → full room s n b ≡ f
+          → cond o (Whole k) (cond f (Full k) (cond d (Faulty k) (scanBy room (step s b) (counted s n b) (k + 1) t))) ≡ Full q
+          → (scanBy room (step s b) (counted s n b) (k + 1) t ≡ Full q → (j : ℕ) × (room j < counted s n b + length t))
+          → (j : ℕ) × (room j < n + suc (length t))
+      by true f d x e r = let z : _≡_ {A = ℕ} 0 1 = cc in absurd (omega arith)
+      by false true d x e r = let c = full-room s n b x in (c .0, omega (arith, c .1))
+      by false false true x e r = let z : _≡_ {A = ℕ} 0 1 = cc in absurd (omega arith)
+      by false false false x e r = let c = r e in (c .0, omega (arith, c .1, counted-most s n b))
+
+-- THE FILE CHECK GOES FILE BY FILE
+-- from the end of a file on
+abbrev goesOn : ℕ → List ℕ → Verdict
+goesOn n [] = passes
+goesOn n (b ∷ t) = judge (start free) n (b ∷ t)
+
+first-byte : (b : ℕ) → onward (start free) b ≡ step (start free) b
+unfolding onward format line
+first-byte b = refl
+
+judge-end : (s : State) (k : ℕ) (f : Bool) → final s ≡ f → judge s k [] ≡ cond f passes (fails k)
+unfolding judge
+judge-end s k f q = ap (λ (x : Bool). cond x passes (fails k)) q
+
+module _ (s : State) (b : ℕ) (t : List ℕ) (k : ℕ) where
+  judge-on : endsBefore s b ≡ false → judge s k (b ∷ t) ≡ cond (isStuck (step s b)) (fails k) (judge (step s b) (k + 1) t)
+  unfolding judge
+  judge-on o = ap (λ (x : State). cond (isStuck x) (fails k) (judge x (k + 1) t)) (within s b o)
+
+  judge-over : endsBefore s b ≡ true → judge s k (b ∷ t) ≡ judge (start free) k (b ∷ t)
+  unfolding judge
+  judge-over o = ap (λ (x : State). cond (isStuck x) (fails k) (judge x (k + 1) t)) (beyond s b o ∙ sym (first-byte b))
+
+-- a fault is the check's
+same-fault : (s : State) (k : ℕ) (t : List ℕ) (p : ℕ) → scan s k t ≡ Faulty p → judge s k t ≡ fails p
+unfolding scan judge
+same-fault s k [] p e = by (final s) e
+  where
+    by : (f : Bool) → cond f (Whole k) (Faulty k) ≡ Faulty p → cond f passes (fails k) ≡ fails p
+    by true e = absurd (no-fault k p e)
+    by false e = let h : k ≡ p = cc in ap fails h
+same-fault s k (b ∷ t) p e = by (endsBefore s b) (tooMany s b) (isStuck (step s b)) refl refl e (same-fault (step s b) (k + 1) t p)
+  where
+    by : (o f d : Bool) → endsBefore s b ≡ o → isStuck (step s b) ≡ d
+        → cond o (Whole k) (cond f (Full k) (cond d (Faulty k) (scan (step s b) (k + 1) t))) ≡ Faulty p
+        → (scan (step s b) (k + 1) t ≡ Faulty p → judge (step s b) (k + 1) t ≡ fails p)
+        → judge s k (b ∷ t) ≡ fails p
+    by true f d x y e r = absurd (no-fault k p e)
+    by false true d x y e r = let z : _≡_ {A = ℕ} 0 1 = cc in absurd (omega arith)
+    by false false true x y e r = let h : k ≡ p = cc in judge-on s b t k x ∙ rw y (ap fails h)
+    by false false false x y e r = judge-on s b t k x ∙ rw y (r e)
+
+-- after a whole file the check begins anew
+record Goes (s : State) (k : ℕ) (t : List ℕ) (n : ℕ) : Type 0 where
+  past : ℕ
+  here : n ≡ k + past
+  goes : judge s k t ≡ goesOn n (drop past t)
+
+same-end : (s : State) (k : ℕ) (t : List ℕ) (n : ℕ) → scan s k t ≡ Whole n → Goes s k t n
+unfolding scan
+same-end s k [] n e = by (final s) refl e
+  where
+    by : (f : Bool) → final s ≡ f → cond f (Whole k) (Faulty k) ≡ Whole n → Goes s k [] n
+    by true q e = let h : k ≡ n = cc in record { past = 0; here = omega arith; goes = judge-end s k true q }
+    by false q e = absurd (no-fault n k (sym e))
+same-end s k (b ∷ t) n e = by (endsBefore s b) (tooMany s b) (isStuck (step s b)) refl refl e (same-end (step s b) (k + 1) t n)
+  where
+    by : (o f d : Bool) → endsBefore s b ≡ o → isStuck (step s b) ≡ d
+        → cond o (Whole k) (cond f (Full k) (cond d (Faulty k) (scan (step s b) (k + 1) t))) ≡ Whole n
+        → (scan (step s b) (k + 1) t ≡ Whole n → Goes (step s b) (k + 1) t n)
+        → Goes s k (b ∷ t) n
+    by true f d x y e r =
+        let h : k ≡ n = cc in
+        record { past = 0; here = omega arith; goes = judge-over s b t k x ∙ ap (λ (j : ℕ). judge (start free) j (b ∷ t)) h }
+    by false true d x y e r = let z : _≡_ {A = ℕ} 0 1 = cc in absurd (omega arith)
+    by false false true x y e r = absurd (no-fault n k (sym e))
+    by false false false x y e r =
+        let g = r e in
+        record { past = suc (g .past); here = g .here ∙ omega arith; goes = judge-on s b t k x ∙ rw y (g .goes) }
+
+-- WITH SLICES AS LONG AS THE TEXT
+module _ (a u p : ℕ) (t : List ℕ) (ha : length t ≤ a) (hu : length t ≤ u) (hp : length t ≤ p) where
+  enough : (j : ℕ) → length t ≤ capacity a u p j
+  enough j = by (eqb j 0) (eqb j 1)
+    where
+      by : (x y : Bool) → length t ≤ cond x p (cond y u a)
+      by true y = hp
+      by false true = hu
+      by false false = ha
+
+  never-full : (k from q : ℕ) → scan (start (slices a u p)) k (drop from t) ≡ Full q → ⊥
+  never-full k from q e =
+      let c = full-late (capacity a u p) (start free) 0 k (drop from t) q (sym (counts a u p k (drop from t)) ∙ e) in
+      omega (arith, c .1, enough (c .0), length-drop from t)
+
+  -- reading's verdict is that with any room
+  wide-verdict : (k from : ℕ) (v : Scanned) → scan (start (slices a u p)) k (drop from t) ≡ v → scan (start free) k (drop from t) ≡ v
+  wide-verdict k from v e =
+      ap (λ (s : State). scan s k (drop from t)) (sym (wide-start a u p))
+      ∙ by v e (subst (Wider (start (slices a u p)) (drop from t) k) e (wider (start (slices a u p)) (sound-format (slices a u p)) k (drop from t)))
+    where
+      by : (v : Scanned) → scan (start (slices a u p)) k (drop from t) ≡ v → Wider (start (slices a u p)) (drop from t) k v
+          → scan (wide (start (slices a u p))) k (drop from t) ≡ v
+      by (Whole n) e w = w
+      by (Faulty n) e w = w
+      by (Full n) e w = absurd (never-full k from n e)
+
+  -- what an answer tells of the verdict
+  was-whole : (from next : ℕ) (f : File) → reading (slices a u p) t from ≡ accepted f next → scanAt (slices a u p) t from ≡ Whole next
+  unfolding reading
+  was-whole from next f e = by (scanAt (slices a u p) t from) _ e
+    where
+      by : (v : Scanned) (g : File) → answer g v ≡ accepted f next → v ≡ Whole next
+      by (Whole n) g e = let h : n ≡ next = cc in ap (λ (x : ℕ). Whole x) h
+      by (Faulty n) g e = let z : _≡_ {A = ℕ} 0 1 = cc in absurd (omega arith)
+      by (Full n) g e = let z : _≡_ {A = ℕ} 0 1 = cc in absurd (omega arith)
+
+  was-fault : (from c q : ℕ) → reading (slices a u p) t from ≡ refused c q → (c ≡ 11) × (scanAt (slices a u p) t from ≡ Faulty q)
+  unfolding reading scanAt
+  was-fault from c q e = by (scan (start (slices a u p)) (min from (length t)) (drop from t)) _ refl e
+    where
+      by :
+          (v : Scanned) (g : File)
+          → scan (start (slices a u p)) (min from (length t)) (drop from t) ≡ v
+          → answer g v ≡ refused c q
+          → (c ≡ 11) × (v ≡ Faulty q)
+      by (Whole n) g x e = let z : _≡_ {A = ℕ} 0 1 = cc in absurd (omega arith)
+      by (Faulty n) g x e = let h : 11 ≡ c = cc in let i : n ≡ q = cc in (sym h, ap (λ (y : ℕ). Faulty y) i)
+      by (Full n) g x e = absurd (never-full (min from (length t)) from n x)
+
+  -- the check from a file's end on is the check of what is left
+  goes-on :
+      (n from j : ℕ)
+      → n ≡ from + j
+      → n < length t
+      → goesOn n (drop j (drop from t)) ≡ judge (start free) (min n (length t)) (drop n t)
+  goes-on n from j e h =
+      let m : n ≡ min n (length t) = omega arith in
+      let d : drop j (drop from t) ≡ drop n t = drop-drop j from t ∙ ap (λ (x : ℕ). drop x t) (sym e) in
+      let l : length (drop n t) ≡ length t - n = length-drop n t in
+      ap (goesOn n) d ∙ some (drop n t) (omega arith) ∙ ap (λ (x : ℕ). judge (start free) x (drop n t)) m
+    where
+      some : (r : List ℕ) → 1 ≤ length r → goesOn n r ≡ judge (start free) n r
+      some [] i = absurd (omega arith)
+      some (b ∷ r) i = refl
+
+  comes-back : (from c q : ℕ) → ComesBack a u p t from c q → (c ≡ 11) × (judge (start free) (min from (length t)) (drop from t) ≡ fails q)
+  unfolding scanAt
+  comes-back from c q (here _ _ _ e) =
+      let w = was-fault from c q e in
+      (w .0, same-fault (start free) (min from (length t)) (drop from t) q (wide-verdict (min from (length t)) from (Faulty q) (w .1)))
+  comes-back from c q (further _ f next _ _ e h r) =
+      let w = was-whole from next f e in
+      let g = same-end (start free) (min from (length t)) (drop from t) next (wide-verdict (min from (length t)) from (Whole next) w) in
+      let i = comes-back next c q r in
+      let b = next-within a u p t from next f e in
+      let n : next ≡ from + g .past = omega (arith, g .here) in
+      (i .0, g .goes ∙ goes-on next from (g .past) n h ∙ i .1)
+
+  -- each file is read, or one comes back
+  either : (fuel from : ℕ) → length t - from < fuel → ReadsOn a u p t from ⊎ ((c : ℕ) × ((q : ℕ) × ComesBack a u p t from c q))
+  either zero from h = absurd (omega arith)
+  either (suc fuel) from h = by (reading (slices a u p) t from) refl (λ next i. either fuel next i)
+    where
+      by : (x : Answer) → reading (slices a u p) t from ≡ x
+          → ((next : ℕ) → length t - next < fuel → ReadsOn a u p t next ⊎ ((c : ℕ) × ((q : ℕ) × ComesBack a u p t next c q)))
+          → ReadsOn a u p t from ⊎ ((c : ℕ) × ((q : ℕ) × ComesBack a u p t from c q))
+      by (refused c q) e r = inr (c, (q, here from c q e))
+      by (accepted f next) e r = on (decLe (length t) next)
+        where
+          on : Dec (length t ≤ next) → ReadsOn a u p t from ⊎ ((c : ℕ) × ((q : ℕ) × ComesBack a u p t from c q))
+          on (yes l) = let n : next ≡ length t = omega (arith, next-within a u p t from next f e .1) in inl (last from f (e ∙ ap (accepted f) n))
+          on (no l) =
+              ⊎-elim (λ rs. inl (then from f next e rs))
+              (λ c. inr (c .0, (c .1 .0, further from f next (c .0) (c .1 .0) e (omega (arith, l)) (c .1 .1))))
+              (r next (omega (arith, l, next-within a u p t from next f e .0)))
+
+  -- THE PLACE OF ITS 11: the file check answers a place exactly where a file comes back there
+  module _ (h : length t ≤ 1_000_000_000_000_000) where
+    place-of : (c q : ℕ) → ComesBack a u p t 0 c q → checkOf t ≡ pos q
+    place-of c q b =
+        let z : 0 ≡ min 0 (length t) = omega arith in
+        check-within t h ∙ ap (λ (k : ℕ). number (judge (start free) k t)) z ∙ ap number (comes-back 0 c q b .1)
+
+    pub checked-by-refusal : (q : ℕ) → (checkOf t ≡ pos q) ↔ ComesBack a u p t 0 11 q
+    checked-by-refusal q = (λ e. ⊎-elim (read e) (refusal e) (either (suc (length t)) 0 (omega arith)), λ b. place-of 11 q b)
+      where
+        read : checkOf t ≡ pos q → ReadsOn a u p t 0 → ComesBack a u p t 0 11 q
+        read e rs =
+            let f : checkOf t ≡ negsuc 0 = checked-by-reading a u p t h ha hu hp .1 rs in
+            let z : _≡_ {A = ℕ} 0 1 = cc in
+            absurd (omega arith)
+
+        refusal : checkOf t ≡ pos q → ((c : ℕ) × ((o : ℕ) × ComesBack a u p t 0 c o)) → ComesBack a u p t 0 11 q
+        refusal e x =
+            let f : checkOf t ≡ pos (x .1 .0) = place-of (x .0) (x .1 .0) (x .1 .1) in
+            let i : x .1 .0 ≡ q = cc in
+            subst (λ (o : ℕ). ComesBack a u p t 0 11 o) i
+            (subst (λ (c : ℕ). ComesBack a u p t 0 c (x .1 .0)) (comes-back 0 (x .0) (x .1 .0) (x .1 .1) .0) (x .1 .1))

@@ -1,0 +1,113 @@
+-- Paper 01's file, and the refusals 11 and 12, by computation. Assumes nothing.
+use Prim.Native.Nat.{ℕ}
+use Prim.Native.String.{String, _++_}
+use mathlib.Core.Path.{_≡_, refl}
+use mathlib.Core.List.{[], _∷_, map}
+use lib.IntN.{ℤ, pos, negsuc}
+use Rattle.format.specs.Bytes.{bytes}
+use Rattle.format.specs.Blocks.{slices}
+use Rattle.format.specs.Decimal.{shown}
+use Rattle.format.specs.Grammar.{more, line, linesText, blocksText, File, fileText}
+use Rattle.format.specs.Machine.{format, inValue, enter, step, onward, judge, checkOf}
+use Rattle.format.specs.Values.{readDigits, readValue, readLine, readLines, readBlocks}
+use Rattle.format.specs.Reading.{scan, scanAt, Answer, accepted, refused, reading}
+
+-- "Input:" (paper 01, "The month file")
+abbrev pub input : String
+input =
+    "month,ons\n202407,100\n"
+    ++ "agent,pb,pv,afs,rfs,pa,ret\n1,1000,0,0,0,0,4\n2,2000,30,0,0,25,0\n"
+    ++ "user,kind,ret\n1,2,0\n2,3,0\n"
+    ++ "at,tp,tf,dp,df,mp,mf,vp,vf\n1,1000,500,0,0,3,2,3,2\n2,2000,0,50,0,16,0,16,0\n"
+
+-- its values
+abbrev pub values : File
+values =
+    record {
+      month = pos 202407;
+      ons = pos 100;
+      agents =
+          (pos 1 ∷ pos 1000 ∷ pos 0 ∷ pos 0 ∷ pos 0 ∷ pos 0 ∷ pos 4 ∷ [])
+          ∷ (pos 2 ∷ pos 2000 ∷ pos 30 ∷ pos 0 ∷ pos 0 ∷ pos 25 ∷ pos 0 ∷ [])
+          ∷ [];
+      users = (pos 1 ∷ pos 2 ∷ pos 0 ∷ []) ∷ (pos 2 ∷ pos 3 ∷ pos 0 ∷ []) ∷ [];
+      points =
+          (pos 1 ∷ pos 1000 ∷ pos 500 ∷ pos 0 ∷ pos 0 ∷ pos 3 ∷ pos 2 ∷ pos 3 ∷ pos 2 ∷ [])
+          ∷ (pos 2 ∷ pos 2000 ∷ pos 0 ∷ pos 50 ∷ pos 0 ∷ pos 16 ∷ pos 0 ∷ pos 16 ∷ pos 0 ∷ [])
+          ∷ [];
+    }
+
+-- written, it is that text; read, it gives those values, and the next position is its end
+pub writes-a : fileText values ≡ bytes input
+unfolding more line linesText blocksText shown
+writes-a = refl
+
+pub reads-a : reading (slices 2 2 2) (bytes input) 0 ≡ accepted values 184
+unfolding reading scanAt scan readBlocks readLines readLine readValue readDigits format more line inValue enter step
+reads-a = refl
+
+-- THE FILE CHECK, of a text
+abbrev check : String → ℤ
+check s = checkOf (bytes s)
+
+-- accepted: one file, two on end, and a file of one month line and no others
+accepts :
+    map check
+    (input ∷ (input ++ input) ∷ "month,ons\n-1,0\nagent,pb,pv,afs,rfs,pa,ret\nuser,kind,ret\nat,tp,tf,dp,df,mp,mf,vp,vf\n" ∷ [])
+    ≡ negsuc 0 ∷ negsuc 0 ∷ negsuc 0 ∷ []
+unfolding checkOf judge onward format more line inValue enter step
+accepts = refl
+
+-- values: -0 at the 0; 01 at the 1; a 19th digit at that digit; two minus signs at the second; a plus sign; no value
+wrong-values :
+    map check
+    ("month,ons\n-0" ∷ "month,ons\n01" ∷ "month,ons\n1234567890123456789" ∷ "month,ons\n--1" ∷ "month,ons\n+1" ∷ "month,ons\n," ∷ [])
+    ≡ pos 11 ∷ pos 11 ∷ pos 28 ∷ pos 11 ∷ pos 10 ∷ pos 10 ∷ []
+unfolding checkOf judge onward format more line inValue enter step
+wrong-values = refl
+
+-- lines: a second month line at its first byte; no month line at the next names; a value too many; one too few; CR before LF; an empty line
+wrong-lines :
+    map check
+    ("month,ons\n1,1\n2,2\n" ∷ "month,ons\nagent," ∷ "month,ons\n1,1,1\n" ∷ "month,ons\n1\n" ∷ "month,ons\r\n" ∷ "month,ons\n\n" ∷ [])
+    ≡ pos 14 ∷ pos 10 ∷ pos 13 ∷ pos 11 ∷ pos 9 ∷ pos 10 ∷ []
+unfolding checkOf judge onward format more line inValue enter step
+wrong-lines = refl
+
+-- where the text ends too soon, its length: nothing at all, no LF after the last line, no point names; and what is no `m` after a file
+wrong-ends :
+    map check
+    (""
+    ∷ "month,ons\n1,1\nagent,pb,pv,afs,rfs,pa,ret\nuser,kind,ret\nat,tp,tf,dp,df,mp,mf,vp,vf"
+    ∷ (input ++ "1")
+    ∷ (input ++ "\n")
+    ∷ (input ++ "month")
+    ∷ [])
+    ≡ pos 0 ∷ pos 81 ∷ pos 185 ∷ pos 184 ∷ pos 189 ∷ []
+unfolding checkOf judge onward format more line inValue enter step
+wrong-ends = refl
+
+-- READING, with slices for so many agents, users and points, at a position
+abbrev at : ℕ → ℕ → ℕ → ℕ → Answer
+at a u p from = reading (slices a u p) (bytes (input ++ input)) from
+
+-- one file after the other; at and past the end 11 at the text's length; in the middle of a file 11 there
+on-end : at 2 2 2 0 ∷ at 2 2 2 184 ∷ at 2 2 2 368 ∷ at 2 2 2 1000 ∷ at 2 2 2 1 ∷ []
+    ≡ accepted values 184 ∷ accepted values 368 ∷ refused 11 368 ∷ refused 11 368 ∷ refused 11 1 ∷ []
+unfolding reading scanAt scan readBlocks readLines readLine readValue readDigits format more line inValue enter step
+on-end = refl
+
+-- 12 at the first byte of the line that is one more than its slice takes; places count from the text's start
+too-many : at 1 2 2 0 ∷ at 2 1 2 0 ∷ at 2 2 1 0 ∷ at 0 2 2 0 ∷ at 2 1 2 184 ∷ []
+    ≡ refused 12 65 ∷ refused 12 104 ∷ refused 12 160 ∷ refused 12 48 ∷ refused 12 288 ∷ []
+unfolding reading scanAt scan readBlocks readLines readLine readValue readDigits format more line inValue enter step
+too-many = refl
+
+-- 12 also where that line is faulty; at any other byte 11; and a fault before it comes first
+abbrev none : String → Answer
+none s = reading (slices 0 0 0) (bytes ("month,ons\n1,1\nagent,pb,pv,afs,rfs,pa,ret\n" ++ s)) 0
+
+whichever-first : none "-0" ∷ none "01" ∷ none "x" ∷ none "usex\n1" ∷ []
+    ≡ refused 12 41 ∷ refused 12 41 ∷ refused 11 41 ∷ refused 11 44 ∷ []
+unfolding reading scanAt scan readBlocks readLines readLine readValue readDigits format more line inValue enter step
+whichever-first = refl

@@ -1,0 +1,5 @@
+pub mod Shares
+pub mod Openings
+pub mod Closings
+pub mod Refusals
+pub mod Readings

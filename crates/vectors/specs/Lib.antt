@@ -1,0 +1,2 @@
+-- What a vector gives and what is asked of the definitions.
+pub mod Asked

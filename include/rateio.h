@@ -1,0 +1,56 @@
+/*
+ * Rateio for C and C++: link librateio_c.a, which `rt staticlib rateio_c` writes to target/staticlib/ (x86-64 Linux).
+ *
+ * Every function here is proved to answer what its comment says, for all values of its arguments: none is undefined
+ * behaviour. None keeps state, allocates, writes through a pointer or raises a signal; any number of threads may call
+ * them at once.
+ */
+#ifndef RATEIO_H
+#define RATEIO_H
+
+#include <stdint.h>
+
+#ifdef __cplusplus
+extern "C" {
+#endif
+
+/* The limit of amounts and of weight totals: 10^17. */
+#define RATEIO_SHARE_LIMIT INT64_C(100000000000000000)
+
+/* What rateio_share answers when it refuses: -10^18 less the place. Every part lies within -10^17 .. 10^17. */
+#define RATEIO_SHARE_BAD_AMOUNT INT64_C(-1000000000000000001) /* place 1: p */
+#define RATEIO_SHARE_BAD_TOTAL  INT64_C(-1000000000000000002) /* place 2: w */
+#define RATEIO_SHARE_BAD_SUMS   INT64_C(-1000000000000000003) /* place 3: before, through */
+
+/* Whether an answer is a refusal and no part. */
+#define RATEIO_SHARE_REFUSED(answer) ((answer) < -RATEIO_SHARE_LIMIT)
+
+/*
+ * The exact part of an amount that falls to one weight of a list.
+ *
+ *   p        the amount, in whole cents: -10^17 .. 10^17
+ *   before   the sum of the weights before this one
+ *   through  that sum with this weight added
+ *   w        the sum of all weights: 1 .. 10^17
+ *
+ *   0 <= before <= through <= w
+ *
+ * Answers floor(p * through / w) - floor(p * before / w), where floor goes towards minus infinity, also for a negative p,
+ * and the products are exact. Otherwise it refuses, by the first of these that holds:
+ *
+ *   RATEIO_SHARE_BAD_AMOUNT   p is out of its limits
+ *   RATEIO_SHARE_BAD_TOTAL    w is out of its limits
+ *   RATEIO_SHARE_BAD_SUMS     before < 0, through < before, or w < through
+ *
+ * To share p over weights w1 .. wn, call it for each in turn, `before` being 0 and then the last call's `through`. The last
+ * `through` is w, and the parts then total p to the cent: no rounding is left over. So -1106 over 1000 and 2000 is
+ * rateio_share(-1106, 0, 1000, 3000) = -369 and rateio_share(-1106, 1000, 3000, 3000) = -737. The parts of
+ * neighbours add up to the part of both (before of the first, through of the last), and a weight of 0 gets 0.
+ */
+int64_t rateio_share(int64_t p, int64_t before, int64_t through, int64_t w);
+
+#ifdef __cplusplus
+}
+#endif
+
+#endif

@@ -1,0 +1,171 @@
+#!/usr/bin/env python3
+"""generate.py FOLDER [all]: writes the facts of crates/vectors/proofs from the vectors beside this file.
+
+A fact says that the definitions, evaluated by the checker, give a vector's expected answer. It has the number of the
+vector's line in its file, from 1. CHOSEN says which vectors the crate takes; with `all`, every one is written.
+"""
+import json
+import os
+import sys
+
+HERE = os.path.dirname(os.path.abspath(__file__))
+
+CHOSEN = {
+    # parts of small and of the largest amounts and totals, negative, whole and 0; every refusal
+    "shares": [1, 5, 9, 10, 13, 24, 27, 29, 31, 33, 58, 63, 87, 104, 108] + list(range(121, 130)),
+    "openings": list(range(1, 11)),
+    "closings":
+    # accepted: no points; half cents; negative credits, held credits, negative corrections; values at their limits
+    [1, 2, 4, 9, 12, 13, 14, 16, 20, 21, 22, 27, 31, 33, 37, 43, 52, 53, 55, 58, 76, 82, 83, 84, 85, 95, 96, 181]
+    # refused: 1, 2, 3, 4
+    + [86, 87, 98, 112] + [88, 89, 90, 91] + [30, 92, 115, 118] + [93, 94]
+    # 5, 6, 7
+    + [71, 121, 124, 152] + [106, 129, 158, 199] + [130, 135, 165, 166, 192]
+    # 8, 9, 10
+    + [136, 137] + [56, 140, 142] + [11, 35, 79, 148],
+    "readings":
+    # accepted, 11, 12
+    [23, 28, 30, 32, 55, 88] + [10, 39, 41, 53, 56, 84, 99, 100, 110, 116, 117, 118, 119] + [1, 20, 46, 103, 111],
+}
+
+
+def vectors(name, everything):
+    """(line number, vector) of a file, in order."""
+    with open(os.path.join(HERE, name + ".jsonl"), encoding="latin-1") as f:
+        numbered = [(i, json.loads(line)) for i, line in enumerate(f, 1) if line.strip()]
+    return [(i, v) for i, v in numbered if everything or i in CHOSEN[name]]
+
+
+# ---- terms
+
+
+def z(x):
+    return f"pos {x}" if x >= 0 else f"minus {-x}"
+
+
+def listed(terms):
+    return " ∷ ".join(terms + ["[]"])
+
+
+def zs(xs):
+    return listed([z(x) for x in xs])
+
+
+def rows(lines):
+    """A line's values on a line of text."""
+    return "".join(f"\n          {'' if i == 0 else '∷ '}({zs(line)})" for i, line in enumerate(lines)) + (
+        "\n          ∷ []" if lines else " []")
+
+
+def record(fields):
+    return "record { " + "; ".join(f"{k} = {v}" for k, v in fields) + " }"
+
+
+def tall(fields):
+    """A record with a field on a line of text."""
+    return "record {\n" + "".join(f"      {k} ={v if v.startswith(chr(10)) else ' ' + v.strip()};\n" for k, v in fields) + "    }"
+
+
+def ledger(g):
+    return record([("users", g[0]), ("agents", g[1]), ("month", z(g[2]))])
+
+
+def blocks(v):
+    return [("month", z(v["month"])), ("ons", z(v["ons"]))] + [(k, rows(v[k])) for k in ("agents", "users", "points")]
+
+
+def quoted(text):
+    plain = {'"': '\\"', "\\": "\\\\", "\n": "\\n"}
+    return '"' + "".join(plain.get(c, c if " " <= c <= "~" else "\\u{%x}" % ord(c)) for c in text) + '"'
+
+
+# ---- statements
+
+
+def share(v):
+    return "share " + " ".join(f"({z(x)})" for x in v[:4]), z(v[4])
+
+
+def opening(v):
+    back = v["refused"]
+    verdict = f"refused {back[0]} {back[1]}" if back else "accepted"
+    return f"opening {v['users']} {v['agents']} {v['held_len']}", record([("verdict", verdict), ("ledger", ledger(v["ledger"]))])
+
+
+AMOUNTS = ["eust", "overrun", "vme", "cpv", "n", "vd", "held", "vmst", "vmpa", "smse", "vmant", "vc"]
+
+
+def closing(v):
+    slices = [("ledger", ledger(v["ledger"])), ("held", zs(v["held"])), ("cells", str(v["cells_len"])), ("work", str(v["work_len"]))]
+    asked = f"closing ({tall(slices + blocks(v))})"
+    if "refused" in v["expect"]:
+        number, place = v["expect"]["refused"]
+        return asked, f"comes-back {number} {place}"
+    a = v["expect"]["accepted"]
+    assert set(a) == set(AMOUNTS), sorted(a)
+    return asked, f"closes ({tall([(k, z(a[k]) if k == 'smse' else zs(a[k])) for k in AMOUNTS])})"
+
+
+def reading(v):
+    e = v["expect"]
+    if "refused" in e:
+        answer = f"refused {e['refused'][0]} {e['refused'][1]}"
+    else:
+        answer = f"accepted ({tall(blocks(e))}) {e['position']}"
+    asked = f"texts {quoted(v['text'])} {v['position']} " + " ".join(str(n) for n in v["capacity"])
+    return asked, record([("reading", answer), ("check", z(v["check"]))])
+
+
+# ---- modules
+
+
+def module(words, source, names, fact, chosen):
+    """The facts on these vectors: `names` from elsewhere beside those of every module, `fact` their word and unfolding."""
+    word, asked, statement = fact
+    text = f"-- {words}: the answers of tests/vectors/{source}.jsonl. Written by tests/vectors/generate.py.\n"
+    text += "".join(f"use {name}\n" for name in ["mathlib.Core.Path.{_≡_, refl}"] + names)
+    for number, v in chosen:
+        left, right = statement(v)
+        note = f"-- {v['name']}\n" if "name" in v else ""
+        line = f"{word}-{number} : {left} ≡ {right}"
+        if "\n" in line or len(line) > 150:
+            line = f"{word}-{number} :\n    {left}\n    ≡ {right}"
+        text += f"\n{note}{line}\nunfolding {asked}\n{word}-{number} = refl\n"
+    return text
+
+
+def modules(everything):
+    lists, whole = "mathlib.Core.List.{[], _∷_}", "lib.IntN.{pos}"
+    asked = "Rattle.vectors.specs.Asked.{%s}"
+    closings = vectors("closings", everything)
+    return {
+        "Shares": module(
+            "The share as C sees it", "shares", [whole, asked % "minus, share"], ("share", "share", share),
+            vectors("shares", everything)),
+        "Openings": module(
+            "Openings", "openings", [whole, "Rattle.rules.specs.Verdict.{accepted, refused}", asked % "opening"],
+            ("opening", "opening", opening), vectors("openings", everything)),
+        "Closings": module(
+            "Accepted months, every amount", "closings", [lists, whole, asked % "minus, closes, closing"],
+            ("closing", "closing", closing), [(i, v) for i, v in closings if "accepted" in v["expect"]]),
+        "Refusals": module(
+            "Refused months", "closings", [lists, whole, asked % "minus, comes-back, closing"],
+            ("closing", "closing", closing), [(i, v) for i, v in closings if "refused" in v["expect"]]),
+        "Readings": module(
+            "Reading and the file check", "readings",
+            [lists, whole, "Rattle.format.specs.Reading.{accepted, refused}", asked % "minus, texts"],
+            ("reading", "texts", reading), vectors("readings", everything)),
+    }
+
+
+def main(folder, everything):
+    os.makedirs(folder, exist_ok=True)
+    made = modules(everything)
+    made["Lib"] = "".join(f"pub mod {name}\n" for name in made)
+    for name, text in made.items():
+        with open(os.path.join(folder, name + ".antt"), "w", encoding="utf-8") as f:
+            f.write(text)
+
+
+if __name__ == "__main__":
+    main(sys.argv[1], "all" in sys.argv[2:])
