@@ -1,6 +1,9 @@
-// What the scan of a month's points finds, printed: a row for each seeded month, in it the first refusal, or use charges and overruns
-// of its three users. The rows that must come are the reference calculation's (tests/reference/tests/charges.rs).
+// Charges of seeded months, printed: a row for each month of four points, in it the first refusal of a line, or use charges and
+// overruns of its three users; then refusal 9, or the sum of the debits, debits and new held credits. The rows that must come are the
+// reference calculation's (tests/reference/tests/charges.rs).
 ghost use Prim.Native.Nat.{_≤_};
+ghost use Rattle.charges_main.specs.Scan.{ScanOf, Small};
+use charges::month::Bills;
 use charges::scan::Sums;
 use libc::STDOUT_FILENO;
 use rules::Answer;
@@ -58,7 +61,18 @@ fn show(s: Sums) {
             amount(overruns[2]);
         }
     }
-    put(b"\n");
+}
+
+fn show_amounts(b: Bills) {
+    let debits = b.debits;
+    let credits = b.credits;
+    amount(b.total);
+    amount(debits[0]);
+    amount(debits[1]);
+    amount(debits[2]);
+    amount(credits[0]);
+    amount(credits[1]);
+    amount(credits[2]);
 }
 
 // The generator's next state (xorshift).
@@ -82,6 +96,19 @@ fn value(style: u64, x: u64, most: u64) -> i64
         return (x % (most + 2)) as i64;
     }
     (x % (most + 1)) as i64
+}
+
+// A pv or a held credit: often 0.
+fn parcel(x: u64) -> i64 {
+    if x % 4 == 0 {
+        return 0;
+    }
+    (x % 100_000_000_001) as i64
+}
+
+// A charge correction of either sign.
+fn correction(x: u64) -> i64 {
+    (x % 200_000_000_001) as i64 - 100_000_000_000
 }
 
 // A point's user: 1 to 3, or past them where values are wrong.
@@ -126,18 +153,58 @@ fn point(style: u64, state: u64) -> Drawn {
     }
 }
 
+fn scan(users: &[[i64; 3]], p1: Point, p2: Point, p3: Point, p4: Point) -> Sums
+    ensures { λ r. ⌜ ScanOf (now (users .entry)) r ⌝ }
+{
+    let s1 = charges::scan::step(charges::scan::no_points(), users, 1, p1);
+    let s2 = charges::scan::step(s1, users, 2, p2);
+    let s3 = charges::scan::step(s2, users, 3, p3);
+    charges::scan::step(s3, users, 4, p4)
+}
+
+// Debits and new held credits of a month of three users, unless a test up to 9 refuses it.
+fn show_bills(agents: &[[i64; 7]], users: &[[i64; 3]], held: &[i64], s: Sums)
+    requires { ⌜ Small (now agents) (now users) (now held) × ScanOf (now users) s ⌝ }
+{
+    let n = users.len();
+    let first = s.verdict;
+    let Answer::Accepted = first else {
+        return;
+    };
+    let lines = limits::lines::lines_before_points(0, agents, users);
+    let Answer::Accepted = lines else {
+        return;
+    };
+    let credits = limits::lines::credits_verdict(held);
+    let Answer::Accepted = credits else {
+        return;
+    };
+    let pv = charges::month::pv_total(agents);
+    let uses = s.uses;
+    if charges::month::no_weights(pv, charges::month::total(&uses[..n])) {
+        put(b" refused 9 0");
+        return;
+    }
+    show_amounts(charges::month::bill(users, s, pv, held));
+}
+
 // A month of four points, printed; answers where the generator stands after it.
 fn month(style: u64, state: u64) -> u64 {
-    let users = [[1, 1, 0], [2, 2, 0], [3, 3, 0]];
     let d1 = point(style, state);
     let d2 = point(style, d1.state);
     let d3 = point(style, d2.state);
     let d4 = point(style, d3.state);
-    let s1 = charges::scan::step(charges::scan::no_points(), &users, 1, d1.point);
-    let s2 = charges::scan::step(s1, &users, 2, d2.point);
-    let s3 = charges::scan::step(s2, &users, 3, d3.point);
-    let s4 = charges::scan::step(s3, &users, 4, d4.point);
-    show(s4);
+    let users = [
+        [1, 1, correction(next(d1.state))],
+        [2, 2, correction(next(d2.state))],
+        [3, 3, correction(next(d3.state))],
+    ];
+    let agents = [[1, 1, parcel(next(d4.state)), 0, 0, 0, 0]];
+    let held = [parcel(d1.state), parcel(d2.state), parcel(d3.state)];
+    let s = scan(&users, d1.point, d2.point, d3.point, d4.point);
+    show(s);
+    show_bills(&agents, &users, &held, s);
+    put(b"\n");
     d4.state
 }
 

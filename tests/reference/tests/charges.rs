@@ -1,7 +1,7 @@
 //! What the program `charges_main` must print is what this calculation works out: of each seeded month of four points
-//! the first refusal, or use charges and overruns of its three users.
+//! the first refusal, or use charges, overruns, the sum of the debits, debits and new held credits of its three users.
 
-use rateio_reference::charges;
+use rateio_reference::charges::{self, Charges};
 use rateio_reference::ledger::Ledger;
 use rateio_reference::lines::{Agent, MonthLines, Point, User};
 use rateio_reference::refusals::{self, Lengths, Refusal};
@@ -48,29 +48,60 @@ fn point(style: Style, state: &mut u64) -> Point {
     point
 }
 
-fn month(style: Style, state: &mut u64) -> MonthLines {
-    MonthLines {
+/// A pv or a held credit.
+fn parcel(drawn: u64) -> i64 {
+    if drawn % 4 == 0 {
+        return 0;
+    }
+    (drawn % 100_000_000_001) as i64
+}
+
+fn correction(drawn: u64) -> i64 {
+    (drawn % 200_000_000_001) as i64 - 100_000_000_000
+}
+
+/// A month and its held credits; what is drawn beside the points starts from the states that these left behind.
+fn month(style: Style, state: &mut u64) -> (MonthLines, Vec<i128>) {
+    let mut points = Vec::new();
+    let mut states = Vec::new();
+    for _ in 0..4 {
+        points.push(point(style, state));
+        states.push(*state);
+    }
+    let beside: Vec<u64> = states.iter().map(|&state| next(&mut state.clone())).collect();
+    let user = |j: usize| User { number: j as i64 + 1, kind: j as i64 + 1, ret: correction(beside[j]) };
+    let lines = MonthLines {
         month: 202_407,
         ons: 0,
-        agents: vec![Agent::from_columns([1, 1, 0, 0, 0, 0, 0])],
-        users: [1, 2, 3].map(|number| User { number, kind: number, ret: 0 }).to_vec(),
-        points: (0..4).map(|_| point(style, state)).collect(),
-    }
+        agents: vec![Agent::from_columns([1, 1, parcel(beside[3]), 0, 0, 0, 0])],
+        users: (0..3).map(user).collect(),
+        points,
+    };
+    (lines, states[..3].iter().map(|&state| parcel(state).into()).collect())
 }
 
-/// The refusal of a point line; the sums that 8 to 10 look at come later.
-fn refused(lines: &MonthLines) -> Option<Refusal> {
+/// The refusal of a line or of test 9; test 10 looks at what is printed.
+fn refused(lines: &MonthLines, credits: &[i128]) -> Option<Refusal> {
     let ledger = Ledger { users: 3, agents: 1, month: 0 };
     let lengths = Lengths { held: 3, cells: refusals::cells_needed(1, 3), work: refusals::work_needed(1, 3) };
-    refusals::closing(&ledger, &[0; 3], lengths, lines).filter(|refusal| refusal.number < 8)
+    refusals::closing(&ledger, credits, lengths, lines).filter(|refusal| refusal.number < 10)
 }
 
-fn row(lines: &MonthLines) -> String {
-    if let Some(refusal) = refused(lines) {
-        return format!(" refused {} {}\n", refusal.number, refusal.place);
+fn numbers(amounts: &[i128]) -> String {
+    amounts.iter().map(|amount| format!(" {}", amount)).collect()
+}
+
+fn row(lines: &MonthLines, credits: &[i128]) -> String {
+    let said = |refusal: Refusal| format!(" refused {} {}", refusal.number, refusal.place);
+    let sums = || numbers(&charges::eust(lines)) + &numbers(&charges::overruns(lines));
+    match refused(lines, credits) {
+        Some(refusal) if refusal.number < 9 => said(refusal),
+        Some(refusal) => sums() + &said(refusal),
+        None => {
+            let month = Charges::of_month(lines, credits);
+            sums() + &numbers(&[month.vd.iter().sum()]) + &numbers(&month.vd) + &numbers(&month.held)
+        }
     }
-    let amounts = [charges::eust(lines), charges::overruns(lines)].concat();
-    amounts.iter().map(|amount| format!(" {}", amount)).collect::<String>() + "\n"
 }
 
 fn printed() -> String {
@@ -78,7 +109,9 @@ fn printed() -> String {
     for (style, seed) in [(Style::Any, 1), (Style::Tiny, 2), (Style::Edge, 3), (Style::Wrong, 4)] {
         let mut state = seed;
         for _ in 0..200 {
-            text += &row(&month(style, &mut state));
+            let (lines, credits) = month(style, &mut state);
+            text += &row(&lines, &credits);
+            text += "\n";
         }
     }
     text
