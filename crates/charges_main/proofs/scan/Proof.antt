@@ -1,11 +1,8 @@
 -- Four steps are the scan of four points.
 use native.Mathlib.Omega.{arith}
-use mathlib.Core.Path.{_≡_, ap, _∙_}
-use mathlib.Core.List.{List, [], _∷_, map}
+use mathlib.Core.List.{[], _∷_}
 use borrow.Author.Needs.{needs}
-use Rattle.rules.specs.Lines.{userOf}
-use Rattle.charges.specs.Scan.{stepped, scannedFrom}
-use Rattle.charges_main.specs.Scan.{ScanOf}
+use Rattle.charges.specs.Scan.{scannedFrom}
 use Rattle.charges_main.proofs.scan.Statement.{statement}
 use Rattle.charges_main.proofs.scan.Tie as tie
 
@@ -28,17 +25,10 @@ returns : tie.Need-returns
 unfolding scannedFrom
 returns c =
     let a = c .before .before .before .before .before .args in
-    let us = map userOf (a .users .now) in
     record {
       points = a .p1 ∷ a .p2 ∷ a .p3 ∷ a .p4 ∷ [];
       few = omega arith;
-      scan =
-          c .step4 .ensures
-          ∙ ap (stepped us 4 (a .p4))
-          (c .before .step3 .ensures
-          ∙ ap (stepped us 3 (a .p3))
-          (c .before .before .step2 .ensures
-          ∙ ap (stepped us 2 (a .p2)) (c .before .before .before .step .ensures ∙ ap (stepped us 1 (a .p1)) (c .before .before .before .before .no-points .ensures))));
+      scan = rw (c .step4 .ensures, c .before .step3 .ensures, c .before .before .step2 .ensures, c .before .before .before .step .ensures, c .before .before .before .before .no-points .ensures);
     }
 
 pub scan-spec : {M : Type 1} → statement M

@@ -1,12 +1,12 @@
 -- What the tests have shown is what the amounts ask for.
-use Prim.Native.Nat.{ℕ, _≤_}
+use Prim.Native.Nat.{_≤_}
 use native.Mathlib.Omega.{arith}
-use mathlib.Core.Path.{_≡_, refl, sym, ap, ap₂, _∙_, subst}
-use mathlib.Core.Bool.{Bool, false, _&&_}
+use mathlib.Core.Path.{_≡_, refl, sym, ap, ap₂, _∙_}
+use mathlib.Core.Bool.{false, _&&_}
 use mathlib.Core.List.{List, map}
 use borrow.Author.Needs.{needs}
 use lib.IntN.{ℤ, pos}
-use lib.ListN.{length, take}
+use lib.ListN.{length}
 use lib.Seq.{length-take-le}
 use lib.Signed.{ltZ}
 use mir.Syntax.{w64}
@@ -17,11 +17,9 @@ use Rattle.ints.specs.Range.{eqZ, outside}
 use Rattle.ints.specs.Sums.{sumℤ}
 use Rattle.ints.specs.Words.{back}
 use Rattle.limits.proofs.Laws.{points-last}
-use Rattle.rules.specs.declared.Answer.{Answer}
-use Rattle.rules.specs.declared.Answer.the-variants.{Accepted, Refused}
 use Rattle.rules.specs.declared.Point.{Point}
 use Rattle.rules.specs.Calendar.{monthOfYear, impossibleMonth}
-use Rattle.rules.specs.Verdict.{Verdict, accepted, _then_, eachLine}
+use Rattle.rules.specs.Verdict.{accepted, _then_, eachLine}
 use Rattle.rules.specs.Lines.{Lines, userOf, monthLines}
 use Rattle.rules.specs.Charges.{EUSTs, pvTotal}
 use Rattle.rules.specs.Refusals.{pointTest, lineTests}
@@ -31,7 +29,6 @@ use Rattle.charges.specs.Scan.{scanned}
 use Rattle.charges.specs.Month.{pvOf, Month, firstUses, firstOverruns}
 use Rattle.charges.proofs.Scanned.{scan-law}
 use Rattle.charges.proofs.Ready.{Tested, pv-asked, uses-asked, pv-is, uses-sum-is, ready}
-use Rattle.charges_main.specs.Scan.{ScanOf, Small}
 use Rattle.charges_main.proofs.show_bills.Statement.{statement}
 use Rattle.charges_main.proofs.show_bills.Tie as tie
 
