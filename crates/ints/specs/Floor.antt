@@ -101,3 +101,9 @@ share-small p t w {q} h k f = ⊎-elim below above (le-or-lt p (pos 0))
 
     above : pos 0 <ℤ p → abs q ≤ abs p
     above g = let s = share-up p t w h k f (omega za) in omega (za, one# q, one# p)
+
+-- the same of the floor itself: t out of w of p, rounded down, is no larger than p
+pub floor-share : (p t w : ℤ) → pos 0 ≤ℤ t → t ≤ℤ w → pos 0 <ℤ w → abs (floor (p *ℤ t) w) ≤ abs p
+floor-share p (pos t) (pos w) h k l = let z : 0 < w = omega za in share-small p t w (omega za) z (floor-is (p *ℤ pos t) w z)
+floor-share p (negsuc t) w h k l = absurd (omega za)
+floor-share p (pos t) (negsuc w) h k l = absurd (omega za)

@@ -56,7 +56,7 @@ sum-end xs i e = ap (λ (k : ℕ). sumℤ (take k xs)) e ∙ ap sumℤ (take-all
 pub record Small (K : ℕ) (xs : List ℤ) : Type 0 where
   pub small : (i : ℕ) → i < length xs → abs (getD xs i (pos 0)) ≤ K
 
-small-tail : {K : ℕ} {x : ℤ} {xs : List ℤ} → Small K (x ∷ xs) → Small K xs
+pub small-tail : {K : ℕ} {x : ℤ} {xs : List ℤ} → Small K (x ∷ xs) → Small K xs
 small-tail h = record { small = λ i k. h .small (suc i) (suc-le-suc k) }
 
 pub sum-take-small : (K : ℕ) (xs : List ℤ) (i : ℕ) → Small K xs → i ≤ length xs → abs (sumℤ (take i xs)) ≤ K * i
@@ -116,6 +116,12 @@ unfolding sumℤ
 sum-take-le xs zero h = ≤-trans (≡→≤ (sum-start xs)) (sum-nonneg xs h)
 sum-take-le [] (suc i) h = ≤-refl (pos 0)
 sum-take-le (x ∷ xs) (suc i) h = add-mono (≤-refl x) (sum-take-le xs i (nonneg-tail h))
+
+-- one entry is no more than the whole
+pub entry-le-sum : (xs : List ℤ) (i : ℕ) → NonNeg xs → i < length xs → getD xs i (pos 0) ≤ℤ sumℤ xs
+entry-le-sum xs i h l =
+    let m = sum-more xs i (pos 0) l in
+    omega (za, sum-take-nonneg xs i h, sum-take-le xs (i + 1) h, m, add# (sumℤ (take i xs)) (getD xs i (pos 0)))
 
 -- a store
 pub sum-set : (xs : List ℤ) (i : ℕ) (v d : ℤ) → i < length xs → sumℤ (set xs i v) ≡ sumℤ xs +ℤ (v -ℤ getD xs i d)

@@ -1,10 +1,14 @@
 -- What follows from the definitions of specs/, up to demand 3.
 --
 -- An accepted month: `Tests` takes a list of tests apart; `Fits` is a line with every value in its range; `Passed` is all that an
--- accepted month has passed; `Sizes` and `Entries` are the lengths and the entries of its lists of amounts.
+-- accepted month has passed; `Sizes`, `Entries` and `ByLine` are the lengths and the entries of its lists of amounts.
 -- Its table: `Near` is the one cent; `Slice` reads a table in the slice that it stands in.
 -- Demand 3: `Steps` holds one closing to one step of the tally, `Follow` a list of them, and `Demand` states the theorem.
 -- It is not empty: `Promise` proves a call's promise by cases, `Some` that promised lists of calls exist, and `Worked` is one.
+-- Guards, which a wrong definition would break: `Totals`, `Blind` (what an amount does not look at), `Cycle`, `Examples` of refusals;
+-- `Sides` has the sums that they need.
+-- What code relies on: `Bounds` of every amount in an accepted month, from `BoundsPoint`, `PerUser`, `BoundsCharges`, `BoundsCredits`.
+-- `Balanced` has the totals of every accepted month.
 pub mod Tests
 pub mod Fits
 pub mod Passed
@@ -18,3 +22,15 @@ pub mod Demand
 pub mod Promise
 pub mod Some
 pub mod Worked
+pub mod ByLine
+pub mod Sides
+pub mod Totals
+pub mod Blind
+pub mod Cycle
+pub mod Examples
+pub mod BoundsPoint
+pub mod PerUser
+pub mod BoundsCharges
+pub mod BoundsCredits
+pub mod Bounds
+pub mod Balanced

@@ -1,0 +1,87 @@
+-- The bounds of every amount that closing works out in a month that breaks no limit, and of every number on the way: each fits 64 bits.
+-- Only the products of the running share and of the cells need two words.
+use Prim.Native.Nat.{ℕ, suc, _+_, _^_, _<_}
+use native.Mathlib.Omega.{arith}
+use mathlib.Core.Path.{_≡_, refl, _∙_, sym}
+use mathlib.Core.Logic.{_≢_}
+use mathlib.Core.List.{List, [], _∷_, map}
+use lib.Dec.{T, ltb}
+use lib.IntN.{ℤ, pos, _*ℤ_}
+use lib.ListN.{length, getD}
+use lib.Signed.{_<ℤ_}
+use Rattle.ints.specs.Bridge.{za, add#}
+use Rattle.ints.specs.Bounds.{Word, word, word-nonneg, word-within}
+use Rattle.ints.specs.Floor.{floor, floor-share}
+use Rattle.ints.specs.Sums.{sumℤ, entry-le-sum}
+use Rattle.rules.specs.declared.Point.{Point}
+use Rattle.rules.specs.Verdict.{accepted}
+use Rattle.rules.specs.Lines.{Lines, pointOf}
+use Rattle.rules.specs.Charges.{halfUp, orZero, useCharge, allowance, excess, overrun, VDs}
+use Rattle.rules.specs.Credits.{VCs}
+use Rattle.rules.specs.Table.{Cell, rounded-down, rounded-up}
+use Rattle.rules.specs.Refusals.{State, Lengths, refusal}
+use Rattle.rules.proofs.Sizes.{length-VDs}
+use Rattle.rules.proofs.Passed.{Passed, passed}
+use Rattle.rules.proofs.BoundsCharges.{ChargeBounds, charge-bounds, above}
+use Rattle.rules.proofs.BoundsCredits.{CreditBounds, credit-bounds}
+
+-- the cell of the payee i and the user j, counted from 0: its floor, and the cell itself
+pub record CellBounds (credits : List ℤ) (l : Lines) : Type 0 where
+  pub floor-at :
+      (i j : ℕ)
+      → i < suc (length (l .agents))
+      → j < length (l .users)
+      → Word 1792400000000000 1792400000000000 (floor (getD (VCs credits l) i (pos 0) *ℤ getD (VDs credits l) j (pos 0)) (sumℤ (VDs credits l)))
+  pub cell-at :
+      (i j : ℕ) {c : ℤ}
+      → i < suc (length (l .agents))
+      → j < length (l .users)
+      → Cell (getD (VCs credits l) i (pos 0) *ℤ getD (VDs credits l) j (pos 0)) (sumℤ (VDs credits l)) c
+      → Word 1792400000000000 1792400000000001 c
+
+pub record Bounds (credits : List ℤ) (l : Lines) : Type 0 where
+  pub charges : ChargeBounds credits l
+  pub payees : CreditBounds credits l
+  pub cells : CellBounds credits l
+
+either : {K : ℕ} {x S c : ℤ} → Word K K (floor x S) → Cell x S c → T (ltb (K + (K + 1)) (2 ^ 63)) → Word K (K + 1) c
+either {x = x} {S} w (rounded-down e) t = rw e (word (w .low) (omega arith) t)
+either {x = x} {S} w (rounded-up e z) t = rw e (word (omega (arith, add# (floor x S) (pos 1))) (omega (arith, add# (floor x S) (pos 1))) t)
+
+cell-bounds : {credits : List ℤ} {l : Lines} → length credits ≡ length (l .users) → sumℤ (VDs credits l) ≢ pos 0 → ChargeBounds credits l → CreditBounds credits l → CellBounds credits l
+cell-bounds {credits} {l} w z b c = record { floor-at = at; cell-at = λ i j h k. λ v. either (at i j h k) v tt }
+  where
+    at : (i j : ℕ) → i < suc (length (l .agents)) → j < length (l .users) → Word 1792400000000000 1792400000000000 (floor (getD (VCs credits l) i (pos 0) *ℤ getD (VDs credits l) j (pos 0)) (sumℤ (VDs credits l)))
+    at i j h k =
+        word-within 1792400000000000 _
+        (floor-share (getD (VCs credits l) i (pos 0)) (getD (VDs credits l) j (pos 0)) (sumℤ (VDs credits l))
+        (word-nonneg (b .VD j k))
+        (entry-le-sum (VDs credits l) j (b .VDs-nonneg) (omega (arith, length-VDs credits l w)))
+        (above (word-nonneg (b .VD-total)) z))
+        (c .VC i h) tt tt tt
+
+-- with one held credit per user, as the ledger's held slice has
+pub bounds : (s : State) (n : Lengths) (l : Lines) → length (s .credits) ≡ s .users → Passed s n l → Bounds (s .credits) l
+bounds s n l w p =
+    let e = w ∙ sym (p .users) in
+    let b = charge-bounds s n l p e in
+    let c = credit-bounds s n l p e in
+    record { charges = b; payees = c; cells = cell-bounds e (p .VD-total) b c }
+
+pub bounds-accepted : (s : State) (n : Lengths) (l : Lines) → length (s .credits) ≡ s .users → refusal s n l ≡ accepted → Bounds (s .credits) l
+bounds-accepted s n l w e = bounds s n l w (passed s n l e)
+
+-- all debits of a month are less than 2 × 10^15
+pub debits-small : (s : State) (n : Lengths) (l : Lines) → length (s .credits) ≡ s .users → Passed s n l → sumℤ (VDs (s .credits) l) <ℤ pos 2000000000000000
+debits-small s n l w p = let b = bounds s n l w p .charges .VD-total in omega za
+
+-- a point that reaches the bound of its use charge, and one that reaches that of its overrun
+unfoldable pub dearest : List Point
+dearest =
+    pointOf (pos 1 ∷ pos 100000 ∷ pos 100000 ∷ pos 0 ∷ pos 0 ∷ pos 20000000 ∷ pos 20000000 ∷ pos 0 ∷ pos 0 ∷ [])
+    ∷ pointOf (pos 1 ∷ pos 100000 ∷ pos 100000 ∷ pos 0 ∷ pos 0 ∷ pos 0 ∷ pos 0 ∷ pos 20000000 ∷ pos 20000000 ∷ [])
+    ∷ []
+
+pub reached : map (λ (p : Point). useCharge p ∷ overrun (pos 2) p ∷ []) dearest ≡ (pos 400000000000 ∷ pos 0 ∷ []) ∷ (pos 0 ∷ pos 1200000000000 ∷ []) ∷ []
+unfolding dearest useCharge overrun excess allowance orZero halfUp floor
+reached = refl
