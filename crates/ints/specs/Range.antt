@@ -25,6 +25,17 @@ pub outside-false : (low high x : ℤ) → outside low high x ≡ false → With
 unfolding outside
 outside-false low high x e = let f = or-false (ltZ x low) (ltZ high x) e in record { above = omega za; below = omega za }
 
+not-below : (a b : ℤ) → b ≤ℤ a → ltZ a b ≡ false
+not-below a b h = go (ltZ a b) refl
+  where
+    go : (t : Bool) → ltZ a b ≡ t → t ≡ false
+    go true e = absurd (omega za)
+    go false e = refl
+
+pub within-false : (low high x : ℤ) → Within low high x → outside low high x ≡ false
+unfolding outside
+within-false low high x w = rw (not-below x low (w .above), not-below high x (w .below))
+
 -- a equals b
 abbrev pub eqZ : ℤ → ℤ → Bool
 eqZ (pos a) (pos b) = eqb a b

@@ -1,14 +1,19 @@
 -- What the machine adds: a signed local holds bits, so that each operand is read back from them, `toZ w64 (ofZ w64 x)`, which is x where x fits.
-use mathlib.Core.Path.{_≡_, sym, ap, _∙_}
+use mathlib.Core.Path.{_≡_, refl, sym, ap, _∙_}
+use mathlib.Core.Bool.{Bool, true, false}
 use Prim.Native.Nat.{ℕ, suc, _/_, _%_, _≤_, _<_, _^_}
 use native.Mathlib.Omega.{arith}
-use lib.IntN.{ℤ, pos, negsuc, natAbs}
-use lib.Signed.{quotZ, remZ, _<ℤ_}
+use borrow.Author.Tests.{eq-eqb, ne-eqb}
+use lib.Dec.{T, eqb, ltb}
+use lib.IntN.{ℤ, pos, negsuc, natAbs, _-ℤ_}
+use lib.Signed.{nonNeg, quotZ, remZ, _≤ℤ_, _<ℤ_}
 use native.Mathlib.Nat.{div-le-self, mod-le}
 use mir.Syntax.{w64}
-use mir.Val.{SFits, toZ, ofZ}
-use mir.Facts.{toZ-ofZ, toZ-pos}
-use Rattle.ints.specs.Bridge.{up, dn, abs, za, neg#}
+use mir.Val.{SFits, Fits, toZ, ofZ}
+use mir.Facts.{toZ-ofZ, toZ-pos, sfits-lit}
+use Rattle.ints.specs.Bridge.{up, dn, abs, abs-is, za, neg#, sub#, one#}
+use Rattle.ints.specs.Floor.{floor}
+use Rattle.ints.specs.Range.{eqZ, eqZ-true, eqZ-false, outside, outside-false}
 
 -- what stands in a need for an operand x
 abbrev pub back : ℤ → ℤ
@@ -29,6 +34,17 @@ same-bits {x} {y} f g e = sym (toZ-ofZ f) ∙ ap (toZ w64) e ∙ toZ-ofZ g
 pub other-bits : {x y : ℤ} → (ofZ w64 x ≡ ofZ w64 y → ⊥) → x ≡ y → ⊥
 other-bits h e = h (ap (ofZ w64) e)
 
+-- so it is the test of the numbers
+pub eqb-bits : {x y : ℤ} → SFits w64 x → SFits w64 y → eqb (ofZ w64 x) (ofZ w64 y) ≡ eqZ x y
+eqb-bits {x} {y} f g = go (eqZ x y) refl
+  where
+    go : (t : Bool) → eqZ x y ≡ t → eqb (ofZ w64 x) (ofZ w64 y) ≡ t
+    go true e = eq-eqb (ofZ w64 x) (ofZ w64 y) (ap (ofZ w64) (eqZ-true x y e))
+    go false e = ne-eqb (ofZ w64 x) (ofZ w64 y) (λ b. eqZ-false x y e (same-bits f g b))
+
+pub eqb-word : {x : ℤ} (n : ℕ) → T (ltb n (2 ^ 63)) → SFits w64 x → eqb (ofZ w64 x) n ≡ eqZ x (pos n)
+eqb-word n t f = eqb-bits f (sfits-lit t)
+
 -- a literal's bits, and those of a number that was cast from `u64`
 pub toZ# : (n : ℕ) → n < 2 ^ 63 → Back (pos n) (toZ w64 n)
 toZ# n h = record { hi = ap up (toZ-pos w64 h); lo = ap dn (toZ-pos w64 h) }
@@ -47,3 +63,23 @@ rem-small (negsuc a) y = omega (arith, mod-le (suc a) (natAbs y), neg# (pos (suc
 pub divisor-bits : (y : ℤ) → pos 0 <ℤ y → 0 < ofZ w64 y
 divisor-bits (pos n) h = omega za
 divisor-bits (negsuc n) h = absurd (omega za)
+
+-- of a dividend that is not negative it is the floor
+pub quot-floor : (x : ℤ) (w : ℕ) → pos 0 ≤ℤ x → quotZ x (pos w) ≡ floor x (pos w)
+unfolding floor
+quot-floor (pos a) w h = refl
+quot-floor (negsuc a) w h = absurd (omega za)
+
+-- a position counted from 1, less 1, as an index of n entries
+pub record Index (n : ℕ) (u : ℤ) : Type 0 where
+  pub at : natAbs (u -ℤ pos 1) < n
+  pub fits : SFits w64 (u -ℤ pos 1)
+  pub cast : T (nonNeg (u -ℤ pos 1)) × Fits w64 (natAbs (u -ℤ pos 1))
+
+pub index : (n : ℕ) (u : ℤ) → n < 2 ^ 63 → outside (pos 1) (pos n) u ≡ false → Index n u
+index n u h e =
+    let w = outside-false (pos 1) (pos n) u e in
+    let d = sub# u (pos 1) in
+    let a = abs-is (u -ℤ pos 1) in
+    let o = one# (u -ℤ pos 1) in
+    record { at = omega za; fits = omega za; cast = omega za }

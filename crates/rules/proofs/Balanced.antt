@@ -29,10 +29,10 @@ module _ (s : State) (n : Lengths) (l : Lines) (w : length (s .credits) ≡ s .u
   limits = bounds s n l w p
 
   none : pvTotal l ≤ℤ pos 0 → sumℤ (CPVs l) ≡ pvTotal l
-  none z = ap sumℤ (CPV-zero l z) ∙ sum-zeros (length (l .users)) ∙ ≤-antisym (word-nonneg (limits .charges .pv-total)) z
+  none z = ap sumℤ (CPV-zero l z) ∙ sum-zeros (length (l .users)) ∙ ≤-antisym (word-nonneg (limits .sums .pv-total)) z
 
   some : pos 0 <ℤ pvTotal l → sumℤ (CPVs l) ≡ pvTotal l
-  some z = CPV-total l z (above (word-nonneg (limits .charges .EUST-total)) (p .EUST-total z))
+  some z = CPV-total l z (above (word-nonneg (limits .sums .EUST-total)) (p .EUST-total z))
 
   pub balanced : Balanced (s .credits) l
   balanced = record {

@@ -22,6 +22,8 @@ use Rattle.rules.specs.Table.{Cell, rounded-down, rounded-up}
 use Rattle.rules.specs.Refusals.{State, Lengths, refusal}
 use Rattle.rules.proofs.Sizes.{length-VDs}
 use Rattle.rules.proofs.Passed.{Passed, passed}
+use Rattle.rules.proofs.Ranged.{ranged-passed}
+use Rattle.rules.proofs.BoundsSums.{SumBounds, sum-bounds}
 use Rattle.rules.proofs.BoundsCharges.{ChargeBounds, charge-bounds, above}
 use Rattle.rules.proofs.BoundsCredits.{CreditBounds, credit-bounds}
 
@@ -40,6 +42,7 @@ pub record CellBounds (credits : List ℤ) (l : Lines) : Type 0 where
       → Word 1792400000000000 1792400000000001 c
 
 pub record Bounds (credits : List ℤ) (l : Lines) : Type 0 where
+  pub sums : SumBounds l
   pub charges : ChargeBounds credits l
   pub payees : CreditBounds credits l
   pub cells : CellBounds credits l
@@ -48,8 +51,9 @@ either : {K : ℕ} {x S c : ℤ} → Word K K (floor x S) → Cell x S c → T (
 either {x = x} {S} w (rounded-down e) t = rw e (word (w .low) (omega arith) t)
 either {x = x} {S} w (rounded-up e z) t = rw e (word (omega (arith, add# (floor x S) (pos 1))) (omega (arith, add# (floor x S) (pos 1))) t)
 
-cell-bounds : {credits : List ℤ} {l : Lines} → length credits ≡ length (l .users) → sumℤ (VDs credits l) ≢ pos 0 → ChargeBounds credits l → CreditBounds credits l → CellBounds credits l
-cell-bounds {credits} {l} w z b c = record { floor-at = at; cell-at = λ i j h k. λ v. either (at i j h k) v tt }
+-- once test 10 is passed too
+pub cell-bounds : {credits : List ℤ} {l : Lines} → length credits ≡ length (l .users) → ChargeBounds credits l → CreditBounds credits l → sumℤ (VDs credits l) ≢ pos 0 → CellBounds credits l
+cell-bounds {credits} {l} w b c z = record { floor-at = at; cell-at = λ i j h k. λ v. either (at i j h k) v tt }
   where
     at : (i j : ℕ) → i < suc (length (l .agents)) → j < length (l .users) → Word 1792400000000000 1792400000000000 (floor (getD (VCs credits l) i (pos 0) *ℤ getD (VDs credits l) j (pos 0)) (sumℤ (VDs credits l)))
     at i j h k =
@@ -63,10 +67,10 @@ cell-bounds {credits} {l} w z b c = record { floor-at = at; cell-at = λ i j h k
 -- with one held credit per user, as the ledger's held slice has
 pub bounds : (s : State) (n : Lengths) (l : Lines) → length (s .credits) ≡ s .users → Passed s n l → Bounds (s .credits) l
 bounds s n l w p =
-    let e = w ∙ sym (p .users) in
-    let b = charge-bounds s n l p e in
-    let c = credit-bounds s n l p e in
-    record { charges = b; payees = c; cells = cell-bounds e (p .VD-total) b c }
+    let r = ranged-passed s n l w p in
+    let b = charge-bounds r (p .EUST-total) in
+    let c = credit-bounds r (p .EUST-total) (p .pb-total) in
+    record { sums = sum-bounds r; charges = b; payees = c; cells = cell-bounds (r .count) b c (p .VD-total) }
 
 pub bounds-accepted : (s : State) (n : Lengths) (l : Lines) → length (s .credits) ≡ s .users → refusal s n l ≡ accepted → Bounds (s .credits) l
 bounds-accepted s n l w e = bounds s n l w (passed s n l e)

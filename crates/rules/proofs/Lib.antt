@@ -28,8 +28,11 @@ pub mod Totals
 pub mod Blind
 pub mod Cycle
 pub mod Examples
+pub mod Ranged
 pub mod BoundsPoint
+pub mod BoundsAgent
 pub mod PerUser
+pub mod BoundsSums
 pub mod BoundsCharges
 pub mod BoundsCredits
 pub mod Bounds

@@ -10,3 +10,4 @@ pub mod Refusals
 pub mod Calls
 pub mod Tally
 pub mod Demand
+pub mod Tests

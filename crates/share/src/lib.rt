@@ -6,6 +6,8 @@ ghost use Rattle.ints.specs.Bridge.{abs};
 ghost use Rattle.ints.specs.Floor.{floor};
 ghost use Rattle.wide.specs.Exact.{divided};
 ghost use Rattle.share.specs.Answer.{shared, badSums, seenByC};
+ghost use Rattle.share.specs.Running.{runningShare};
+ghost use Rattle.share.specs.Filling.{Fillable};
 use wide::Divided;
 use wide::Ratio;
 
@@ -79,6 +81,25 @@ pub fn part(p: i64, before: i64, through: i64, w: i64) -> Shared
     let upper = floor_of(p, through as u64, w as u64);
     let lower = floor_of(p, before as u64, w as u64);
     Shared::Part(upper - lower)
+}
+
+// Writes the running share of p over the weights, whose sum is `total`. Each floor is worked out once.
+pub fn fill(p: i64, total: i64, weights: &[i64], parts: &mut [i64])
+    requires { ⌜ Fillable p total (now weights) (now parts) ⌝ }
+    ensures { λ _. ⌜ now (parts .exit) ≡ runningShare p (now (weights .entry)) ⌝ }
+{
+    let n = weights.len();
+    let w = total as u64;
+    let mut through: i64 = 0;
+    let mut lower: i64 = 0;
+    let mut i = 0;
+    while i < n {
+        through = through + weights[i];
+        let upper = floor_of(p, through as u64, w);
+        parts[i] = upper - lower;
+        lower = upper;
+        i += 1;
+    }
 }
 
 // What C sees of an answer.

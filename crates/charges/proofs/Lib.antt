@@ -1,0 +1,2 @@
+-- What follows from the definitions of specs/: `Scanned` is what a whole scan comes to.
+pub mod Scanned

@@ -1,0 +1,82 @@
+-- The lines before i passed, so that the verdict is that of the rest; it is settled at the first that is refused, or past the last.
+use Prim.Native.Nat.{ℕ, _+_, _-_, _≤_}
+use mathlib.Core.Path.{_≡_, sym, ap, _∙_}
+use mathlib.Core.Bool.{Bool}
+use mathlib.Core.List.{List}
+use native.Mathlib.Omega.{arith}
+use borrow.Author.Needs.{needs}
+use lib.IntN.{ℤ}
+use lib.ListN.{length}
+use Rattle.rules.specs.Verdict.{Verdict, when}
+use Rattle.rules.specs.Lines.{agentOf}
+use Rattle.rules.specs.Refusals.{agentTest}
+use Rattle.rules.specs.Tests.{Passed, each-map, none-passed, line-refused, line-passed, all-passed}
+use Rattle.limits.proofs.lines.agents_verdict.Statement.{statement}
+use Rattle.limits.proofs.lines.agents_verdict.Tie as tie
+
+-- the test of a line as it stands in the slice
+abbrev test : ℕ → List ℤ → Verdict
+test k l = agentTest k (agentOf l)
+
+abbrev Inv-loop : tie.InvT-loop
+Inv-loop agents i₀ i = (i ≤ length agents) × Passed test agents i
+
+abbrev μ-loop : tie.MeasureT-loop
+μ-loop agents i₀ i = length agents - i
+
+loop-holds : tie.Need-loop-holds Inv-loop μ-loop
+loop-holds c = (omega arith, none-passed test _)
+
+add-bad-agent : tie.Need-add-bad-agent Inv-loop μ-loop
+add-bad-agent c = search needs
+
+mul-bad-agent : tie.Need-mul-bad-agent Inv-loop μ-loop
+mul-bad-agent c = search needs
+
+shared-slice-copy-out-bad-agent : tie.Need-shared-slice-copy-out-bad-agent Inv-loop μ-loop
+shared-slice-copy-out-bad-agent c = search needs
+
+bad-agent-requires : tie.Need-bad-agent-requires Inv-loop μ-loop
+bad-agent-requires c κs = search needs
+
+add-t11 : tie.Need-add-t11 Inv-loop μ-loop
+add-t11 c = search needs
+
+returns : tie.Need-returns Inv-loop μ-loop
+returns c =
+    let b = c .before .before .before .before in
+    sym
+    (each-map agentTest agentOf 1 _
+    ∙ line-refused test _ _ (omega arith) (b .loop .inv .1) (ap (λ (t : Bool). when t 5 (b .loop .i + 1)) (sym (c .before .bad-agent .ensures) ∙ c .if1 .taken)))
+
+add-i : tie.Need-add-i Inv-loop μ-loop
+add-i c = search needs
+
+loop-less : tie.Need-loop-less Inv-loop μ-loop
+loop-less c = search needs
+
+loop-again : tie.Need-loop-again Inv-loop μ-loop
+loop-again c =
+    let b = c .before .before .before .before in
+    (omega arith, line-passed test _ _ (omega arith) (b .loop .inv .1) (ap (λ (t : Bool). when t 5 (b .loop .i + 1)) (sym (c .before .bad-agent .ensures) ∙ c .if1 .left)))
+
+returns-2 : tie.Need-returns-2 Inv-loop μ-loop
+returns-2 c = sym (each-map agentTest agentOf 1 _ ∙ all-passed test _ (c .loop-test .left) (c .before .loop .inv .1))
+
+pub agents-verdict-spec : {M : Type 1} → statement M
+agents-verdict-spec =
+    tie.close
+    (tie.spec
+    Inv-loop
+    μ-loop
+    loop-holds
+    add-bad-agent
+    mul-bad-agent
+    shared-slice-copy-out-bad-agent
+    bad-agent-requires
+    add-t11
+    returns
+    add-i
+    loop-less
+    loop-again
+    returns-2)

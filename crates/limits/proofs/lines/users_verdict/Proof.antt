@@ -1,0 +1,82 @@
+-- The lines before i passed, so that the verdict is that of the rest; it is settled at the first that is refused, or past the last.
+use Prim.Native.Nat.{ℕ, _+_, _-_, _≤_}
+use mathlib.Core.Path.{_≡_, sym, ap, _∙_}
+use mathlib.Core.Bool.{Bool}
+use mathlib.Core.List.{List}
+use native.Mathlib.Omega.{arith}
+use borrow.Author.Needs.{needs}
+use lib.IntN.{ℤ}
+use lib.ListN.{length}
+use Rattle.rules.specs.Verdict.{Verdict, when}
+use Rattle.rules.specs.Lines.{userOf}
+use Rattle.rules.specs.Refusals.{userTest}
+use Rattle.rules.specs.Tests.{Passed, each-map, none-passed, line-refused, line-passed, all-passed}
+use Rattle.limits.proofs.lines.users_verdict.Statement.{statement}
+use Rattle.limits.proofs.lines.users_verdict.Tie as tie
+
+-- the test of a line as it stands in the slice
+abbrev test : ℕ → List ℤ → Verdict
+test k l = userTest k (userOf l)
+
+abbrev Inv-loop : tie.InvT-loop
+Inv-loop users i₀ i = (i ≤ length users) × Passed test users i
+
+abbrev μ-loop : tie.MeasureT-loop
+μ-loop users i₀ i = length users - i
+
+loop-holds : tie.Need-loop-holds Inv-loop μ-loop
+loop-holds c = (omega arith, none-passed test _)
+
+add-bad-user : tie.Need-add-bad-user Inv-loop μ-loop
+add-bad-user c = search needs
+
+mul-bad-user : tie.Need-mul-bad-user Inv-loop μ-loop
+mul-bad-user c = search needs
+
+shared-slice-copy-out-bad-user : tie.Need-shared-slice-copy-out-bad-user Inv-loop μ-loop
+shared-slice-copy-out-bad-user c = search needs
+
+bad-user-requires : tie.Need-bad-user-requires Inv-loop μ-loop
+bad-user-requires c κs = search needs
+
+add-t11 : tie.Need-add-t11 Inv-loop μ-loop
+add-t11 c = search needs
+
+returns : tie.Need-returns Inv-loop μ-loop
+returns c =
+    let b = c .before .before .before .before in
+    sym
+    (each-map userTest userOf 1 _
+    ∙ line-refused test _ _ (omega arith) (b .loop .inv .1) (ap (λ (t : Bool). when t 5 (b .loop .i + 1)) (sym (c .before .bad-user .ensures) ∙ c .if1 .taken)))
+
+add-i : tie.Need-add-i Inv-loop μ-loop
+add-i c = search needs
+
+loop-less : tie.Need-loop-less Inv-loop μ-loop
+loop-less c = search needs
+
+loop-again : tie.Need-loop-again Inv-loop μ-loop
+loop-again c =
+    let b = c .before .before .before .before in
+    (omega arith, line-passed test _ _ (omega arith) (b .loop .inv .1) (ap (λ (t : Bool). when t 5 (b .loop .i + 1)) (sym (c .before .bad-user .ensures) ∙ c .if1 .left)))
+
+returns-2 : tie.Need-returns-2 Inv-loop μ-loop
+returns-2 c = sym (each-map userTest userOf 1 _ ∙ all-passed test _ (c .loop-test .left) (c .before .loop .inv .1))
+
+pub users-verdict-spec : {M : Type 1} → statement M
+users-verdict-spec =
+    tie.close
+    (tie.spec
+    Inv-loop
+    μ-loop
+    loop-holds
+    add-bad-user
+    mul-bad-user
+    shared-slice-copy-out-bad-user
+    bad-user-requires
+    add-t11
+    returns
+    add-i
+    loop-less
+    loop-again
+    returns-2)

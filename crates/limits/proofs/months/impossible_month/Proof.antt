@@ -1,0 +1,55 @@
+-- Within the range the month is above 0, where the remainder of `%` is mm.
+use Prim.Native.Nat.{_/_}
+use mathlib.Core.Path.{_≡_, sym, _∙_}
+use mathlib.Core.Bool.{true, false, _||_}
+use borrow.Author.Needs.{needs}
+use lib.IntN.{ℤ, pos, negsuc, _*ℤ_}
+use lib.Signed.{remZ, quotZ, _≤ℤ_}
+use mir.Syntax.{w64}
+use mir.Val.{SFits}
+use mir.Facts.{toZ-ofZ}
+use Rattle.ints.specs.Bridge.{za, sub#, mul#}
+use Rattle.ints.specs.Floor.{floor}
+use Rattle.ints.specs.Range.{outside, outside-false}
+use Rattle.ints.specs.Words.{quot-small, rem-small}
+use Rattle.rules.specs.Calendar.{monthOfYear, impossibleMonth}
+use Rattle.limits.proofs.months.impossible_month.Statement.{statement}
+use Rattle.limits.proofs.months.impossible_month.Tie as tie
+
+mm : (m : ℤ) → pos 200001 ≤ℤ m → remZ m (pos 100) ≡ monthOfYear m
+unfolding monthOfYear floor
+mm (pos a) h = omega (za, sub# (pos a) (pos (a / 100) *ℤ pos 100), mul# (pos (a / 100)) (pos 100))
+mm (negsuc a) h = absurd (omega za)
+
+quot-fits : (m : ℤ) → outside (pos 200001) (pos 209912) m ≡ false → SFits w64 (quotZ m (pos 100))
+quot-fits m e = let w = outside-false _ _ m e in omega (za, quot-small m (pos 100))
+
+rem-fits : (m : ℤ) → outside (pos 200001) (pos 209912) m ≡ false → SFits w64 (remZ m (pos 100))
+rem-fits m e = let w = outside-false _ _ m e in omega (za, rem-small m (pos 100))
+
+in-range : (c : tie.Else1) → outside (pos 200001) (pos 209912) (c .before .before .args .m) ≡ false
+in-range c = simp (toZ-ofZ, c .before .before .fits .m) at (sym (c .before .outside .ensures) ∙ c .if1 .left)
+
+outside-requires : tie.Need-outside-requires
+outside-requires c κs = search needs
+
+returns : tie.Need-returns
+unfolding impossibleMonth
+returns c = rw (simp (toZ-ofZ, c .before .before .fits .m) at (sym (c .before .outside .ensures) ∙ c .if1 .taken))
+
+rem-outside : tie.Need-rem-outside
+rem-outside c = let s = c .before .before in simp (toZ-ofZ, s .fits .m) (search needs, quot-fits (s .args .m) (in-range c))
+
+outside-requires-2 : tie.Need-outside-requires-2
+outside-requires-2 c κs = search needs
+
+returns-2 : tie.Need-returns-2
+unfolding impossibleMonth
+returns-2 c =
+    let s = c .before .before .before in
+    let m = s .args .m in
+    let e = in-range (c .before) in
+    rw e (rw (mm m (outside-false _ _ m e .above)) at (simp (toZ-ofZ, s .fits .m, rem-fits m e) at (c .outside2 .ensures)))
+
+pub impossible-month-spec : {M : Type 1} → statement M
+impossible-month-spec = tie.close (tie.spec outside-requires returns rem-outside outside-requires-2 returns-2)

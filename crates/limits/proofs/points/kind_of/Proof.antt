@@ -1,0 +1,117 @@
+-- Past the test the user's number less 1 is an index of its line.
+use Prim.Native.Nat.{ℕ, zero, suc, _*_, _≤_, _<_, _^_}
+use mathlib.Core.Path.{_≡_, refl, sym, ap, _∙_}
+use mathlib.Core.Bool.{true, false, true≢false}
+use mathlib.Core.List.{List, [], map}
+use native.Mathlib.Omega.{arith}
+use native.Mathlib.Decide.{decLe}
+use borrow.Author.Needs.{needs}
+use lib.Dec.{T}
+use lib.IntN.{ℤ, pos, negsuc, natAbs, _-ℤ_}
+use lib.ListN.{length, getD, length-map, List·getD-map, List·getD-eq-default}
+use lib.Signed.{nonNeg}
+use mir.Syntax.{w64}
+use mir.Val.{SFits, Fits}
+use mir.Facts.{toZ-ofZ, toZ-pos}
+use Rattle.ints.specs.Bridge.{abs-is, za, sub#, one#}
+use Rattle.ints.specs.Range.{outside, outside-false, within-false}
+use Rattle.ints.specs.Words.{back}
+use Rattle.rules.specs.Lines.{User, userOf, kindOf}
+use Rattle.limits.proofs.points.kind_of.Statement.{statement}
+use Rattle.limits.proofs.points.kind_of.Tie as tie
+
+module _ (xs : List (List ℤ)) where
+  past : (k : ℕ) → outside (pos 1) (pos (length xs)) (pos (suc k)) ≡ true → length xs ≤ k
+  past k e = go (decLe (length xs) k)
+    where
+      go : Dec (length xs ≤ k) → length xs ≤ k
+      go (yes h) = h
+      go (no h) = absurd (true≢false (sym e ∙ within-false _ _ _ (record { above = omega za; below = omega za })))
+
+  no-kind : (u : ℤ) → outside (pos 1) (pos (length xs)) u ≡ true → pos 0 ≡ kindOf (map userOf xs) u
+  unfolding kindOf
+  no-kind (pos zero) e = refl
+  no-kind (pos (suc k)) e =
+      let h : length (map userOf xs) ≤ k = rw (length-map xs userOf) (past k e) in
+      sym (ap (λ (v : User). v .kind) (List·getD-eq-default (map userOf xs) (userOf []) h))
+  no-kind (negsuc k) e = refl
+
+  index : (u : ℤ) → outside (pos 1) (pos (length xs)) u ≡ false → natAbs (u -ℤ pos 1) < length xs
+  index u e = let w = outside-false _ _ u e in omega (za, sub# u (pos 1), abs-is (u -ℤ pos 1), one# (u -ℤ pos 1))
+
+  word : (u : ℤ) → length xs < 2 ^ 63 → outside (pos 1) (pos (length xs)) u ≡ false → SFits w64 (u -ℤ pos 1)
+  word u h e = omega (za, index u e, abs-is (u -ℤ pos 1))
+
+  castable : (u : ℤ) → length xs < 2 ^ 63 → outside (pos 1) (pos (length xs)) u ≡ false → T (nonNeg (u -ℤ pos 1)) × Fits w64 (natAbs (u -ℤ pos 1))
+  castable u h e = let w = outside-false _ _ u e in let f = word u h e in omega (za, sub# u (pos 1), one# (u -ℤ pos 1))
+
+  kind-at : (u : ℤ) → outside (pos 1) (pos (length xs)) u ≡ false → getD (getD xs (natAbs (u -ℤ pos 1)) []) 1 (pos 0) ≡ kindOf (map userOf xs) u
+  unfolding kindOf
+  kind-at (pos zero) e = let w = outside-false _ _ _ e in absurd (omega za)
+  kind-at (pos (suc k)) e =
+      let h : natAbs (pos (suc k) -ℤ pos 1) ≡ k = omega (za, sub# (pos (suc k)) (pos 1), abs-is (pos (suc k) -ℤ pos 1), one# (pos (suc k) -ℤ pos 1)) in
+      rw h (sym (ap (λ (v : User). v .kind) (List·getD-map userOf xs k [])))
+  kind-at (negsuc k) e = let w = outside-false _ _ _ e in absurd (omega za)
+
+cast-outside : tie.Need-cast-outside
+cast-outside c = search needs
+
+outside-requires : tie.Need-outside-requires
+outside-requires c κs = search needs
+
+tested : (c : tie.After-outside) → c .outside .result ≡ outside (pos 1) (pos (length (c .before .args .users .now))) (c .before .args .user)
+tested c =
+    let s = c .before in
+    let h : length (s .args .users .now) < 2 ^ 63 = omega arith in
+    simp (toZ-ofZ, toZ-pos w64 h, s .fits .user) at (c .outside .ensures)
+
+returns : tie.Need-returns
+returns c = let s = c .before .before in no-kind (s .args .users .now) (s .args .user) (sym (tested (c .before)) ∙ c .if1 .taken)
+
+module _ (c : tie.Else1) where
+  abbrev s : tie.Start
+  s = c .before .before
+
+  abbrev xs : List (List ℤ)
+  xs = s .args .users .now
+
+  short : length xs < 2 ^ 63
+  short = omega arith
+
+  there : outside (pos 1) (pos (length xs)) (s .args .user) ≡ false
+  there = sym (tested (c .before)) ∙ c .if1 .left
+
+sub-line : tie.Need-sub-line
+sub-line c = simp (toZ-ofZ, s c .fits .user) (word (xs c) _ (short c) (there c))
+
+cast-line : tie.Need-cast-line
+cast-line c = simp (toZ-ofZ, s c .fits .user, word (xs c) _ (short c) (there c)) (castable (xs c) _ (short c) (there c))
+
+mul-line : tie.Need-mul-line
+mul-line c = simp (toZ-ofZ, s c .fits .user, word (xs c) _ (short c) (there c)) (omega (arith, index (xs c) _ (there c)))
+
+shared-slice-copy-out-line : tie.Need-shared-slice-copy-out-line
+shared-slice-copy-out-line c = simp (toZ-ofZ, s c .fits .user, word (xs c) _ (short c) (there c)) (index (xs c) _ (there c))
+
+array-copy-out-result : tie.Need-array-copy-out-result
+array-copy-out-result c = search needs
+
+returns-2 : tie.Need-returns-2
+returns-2 c =
+    let d = c .before .before in
+    let f : SFits w64 (getD (getD (xs d) (natAbs (back (back (s d .args .user) -ℤ pos 1))) []) 1 (pos 0)) = search needs in
+    toZ-ofZ f ∙ simp (toZ-ofZ, s d .fits .user, word (xs d) _ (short d) (there d)) (kind-at (xs d) _ (there d))
+
+pub kind-of-spec : {M : Type 1} → statement M
+kind-of-spec =
+    tie.close
+    (tie.spec
+    cast-outside
+    outside-requires
+    returns
+    sub-line
+    cast-line
+    mul-line
+    shared-slice-copy-out-line
+    array-copy-out-result
+    returns-2)

@@ -1,0 +1,115 @@
+// Held credits, and the ons, agent and user lines: refusals 4 and 5.
+ghost use mathlib.Core.Path.{_≡_};
+ghost use mathlib.Core.List.{map};
+ghost use lib.IntN.{pos};
+ghost use Rattle.ints.specs.Range.{eqZ};
+ghost use Rattle.rules.specs.Verdict.{when, _then_, eachLine};
+ghost use Rattle.rules.specs.Lines.{agentOf, userOf, badAmount, badCorrection, badAgent, badUser};
+ghost use Rattle.rules.specs.Refusals.{creditTest, agentTest, userTest};
+ghost use Rattle.rules.specs.Calls.{verdictOf};
+use rules::Answer;
+
+// 10^11, the limit of amounts, and either way of corrections.
+const AMOUNT: i64 = 100_000_000_000;
+
+// 10^17, the limit of held credits.
+const CREDIT: i64 = 100_000_000_000_000_000;
+
+pub fn bad_amount(x: i64) -> bool
+    ensures { λ r. ⌜ r ≡ badAmount x ⌝ }
+{
+    ints::outside(0, AMOUNT, x)
+}
+
+pub fn bad_correction(x: i64) -> bool
+    ensures { λ r. ⌜ r ≡ badCorrection x ⌝ }
+{
+    ints::outside(-AMOUNT, AMOUNT, x)
+}
+
+// Whether a line's number is its position.
+fn is_number(x: i64, k: u64) -> bool
+    ensures { λ r. ⌜ r ≡ eqZ x (pos k) ⌝ }
+{
+    if x < 0 {
+        return false;
+    }
+    x as u64 == k
+}
+
+// 4: the first held credit below 0 or above 10^17.
+pub fn credits_verdict(credits: &[i64]) -> Answer
+    ensures { λ r. ⌜ verdictOf r ≡ eachLine creditTest 1 (now (credits .entry)) ⌝ }
+{
+    let mut i: usize = 0;
+    while i < credits.len() {
+        if ints::outside(0, CREDIT, credits[i]) {
+            return Answer::Refused(4, i as u64 + 1);
+        }
+        i += 1;
+    }
+    Answer::Accepted
+}
+
+// 5 of the agent line at position k.
+pub fn bad_agent(k: u64, line: [i64; 7]) -> bool
+    ensures { λ r. ⌜ r ≡ badAgent k (agentOf line) ⌝ }
+{
+    !is_number(line[0], k)
+        | bad_amount(line[1])
+        | bad_amount(line[2])
+        | bad_amount(line[3])
+        | bad_amount(line[4])
+        | bad_correction(line[5])
+        | bad_correction(line[6])
+}
+
+pub fn agents_verdict(agents: &[[i64; 7]]) -> Answer
+    ensures { λ r. ⌜ verdictOf r ≡ eachLine agentTest 1 (map agentOf (now (agents .entry))) ⌝ }
+{
+    let mut i: usize = 0;
+    while i < agents.len() {
+        if bad_agent(i as u64 + 1, agents[i]) {
+            return Answer::Refused(5, i as u64 + 1);
+        }
+        i += 1;
+    }
+    Answer::Accepted
+}
+
+// 5 of the user line at position k.
+pub fn bad_user(k: u64, line: [i64; 3]) -> bool
+    ensures { λ r. ⌜ r ≡ badUser k (userOf line) ⌝ }
+{
+    !is_number(line[0], k) | ints::outside(1, 3, line[1]) | bad_correction(line[2])
+}
+
+pub fn users_verdict(users: &[[i64; 3]]) -> Answer
+    ensures { λ r. ⌜ verdictOf r ≡ eachLine userTest 1 (map userOf (now (users .entry))) ⌝ }
+{
+    let mut i: usize = 0;
+    while i < users.len() {
+        if bad_user(i as u64 + 1, users[i]) {
+            return Answer::Refused(5, i as u64 + 1);
+        }
+        i += 1;
+    }
+    Answer::Accepted
+}
+
+// 5 of the ons, agent and user lines, in this order.
+pub fn lines_before_points(ons: i64, agents: &[[i64; 7]], users: &[[i64; 3]]) -> Answer
+    ensures { λ r. ⌜ verdictOf r
+        ≡ (when (badAmount ons) 5 0
+        then eachLine agentTest 1 (map agentOf (now (agents .entry)))
+        then eachLine userTest 1 (map userOf (now (users .entry)))) ⌝ }
+{
+    if bad_amount(ons) {
+        return Answer::Refused(5, 0);
+    }
+    let first = agents_verdict(agents);
+    match first {
+        Answer::Refused(number, place) => Answer::Refused(number, place),
+        Answer::Accepted => users_verdict(users),
+    }
+}

@@ -1,0 +1,72 @@
+-- What is known once tests 1 to 7 are passed, before any sum is tested: counts within their limits, and every value in its range. The
+-- sums that tests 8, 9 and 10 look at are worked out with no more than this.
+use Prim.Native.Nat.{ℕ, suc, _≤_, _<_}
+use native.Mathlib.Omega.{arith}
+use mathlib.Core.Path.{_≡_, sym, _∙_}
+use mathlib.Core.List.{List, []}
+use lib.ListN.{length, getD}
+use lib.IntN.{ℤ, pos}
+use Rattle.ints.specs.Range.{Within, outside-false}
+use Rattle.rules.specs.Verdict.{accepted, eachLine}
+use Rattle.rules.specs.Lines.{Lines, agentOf, userOf, pointOf}
+use Rattle.rules.specs.Refusals.{State, Lengths, creditTest, agentTest, userTest, pointTest, lineTests}
+use Rattle.rules.proofs.Tests.{then-accepted, when-accepted, when-then, each-from-1}
+use Rattle.rules.proofs.Fits.{Amount, Possible, AgentFits, agent-fits, UserFits, user-fits, PointFits, point-passed}
+use Rattle.rules.proofs.Passed.{Passed}
+
+pub record Ranged (credits : List ℤ) (l : Lines) : Type 0 where
+  pub few-users : length (l .users) ≤ 512
+  pub few-agents : length (l .agents) ≤ 256
+  pub few-points : length (l .points) ≤ 1024
+  pub month : Possible (l .month)
+  -- one held credit per user
+  pub count : length credits ≡ length (l .users)
+  pub held : (j : ℕ) → j < length credits → Within (pos 0) (pos 100000000000000000) (getD credits j (pos 0))
+  pub ons : Amount (l .ons)
+  pub agent : (i : ℕ) → i < length (l .agents) → AgentFits (suc i) (getD (l .agents) i (agentOf []))
+  pub user : (j : ℕ) → j < length (l .users) → UserFits (suc j) (getD (l .users) j (userOf []))
+  pub point : (m : ℕ) → m < length (l .points) → PointFits (getD (l .points) m (pointOf []))
+
+-- from the tests on held credits and lines
+pub ranged :
+    (credits : List ℤ) (l : Lines)
+    → length (l .users) ≤ 512
+    → length (l .agents) ≤ 256
+    → length (l .points) ≤ 1024
+    → Possible (l .month)
+    → length credits ≡ length (l .users)
+    → eachLine creditTest 1 credits ≡ accepted
+    → lineTests l ≡ accepted
+    → Ranged credits l
+unfolding lineTests
+ranged credits l us gs ps m w d e =
+    let a = when-then _ 5 0 _ e in
+    let b = then-accepted (eachLine agentTest 1 (l .agents)) _ (a .1) in
+    let c = then-accepted (eachLine userTest 1 (l .users)) _ (b .1) in
+    record {
+      few-users = us;
+      few-agents = gs;
+      few-points = ps;
+      month = m;
+      count = w;
+      held = λ j h. outside-false _ _ _ (when-accepted _ 4 (suc j) (each-from-1 creditTest credits (pos 0) d j h));
+      ons = outside-false _ _ _ (a .0);
+      agent = λ i h. agent-fits _ _ (when-accepted _ 5 (suc i) (each-from-1 agentTest (l .agents) (agentOf []) (b .0) i h));
+      user = λ j h. user-fits _ _ (when-accepted _ 5 (suc j) (each-from-1 userTest (l .users) (userOf []) (c .0) j h));
+      point = λ k h. point-passed (l .users) (suc k) _ (each-from-1 (pointTest (l .users)) (l .points) (pointOf []) (c .1) k h) .values;
+    }
+
+-- a month that breaks no limit
+pub ranged-passed : (s : State) (n : Lengths) (l : Lines) → length (s .credits) ≡ s .users → Passed s n l → Ranged (s .credits) l
+ranged-passed s n l w p = record {
+  few-users = omega (arith, p .users, p .few-users);
+  few-agents = omega (arith, p .agents, p .few-agents);
+  few-points = p .few-points;
+  month = p .month;
+  count = w ∙ sym (p .users);
+  held = p .credits;
+  ons = p .ons;
+  agent = p .agent;
+  user = p .user;
+  point = λ m h. p .point m h .values;
+}
