@@ -68,6 +68,18 @@ agent-fits k a e =
       ret = outside-false _ _ _ (e₆ .1);
     }
 
+-- its amounts, whatever its number
+pub record AmountsFit (a : Agent) : Type 0 where
+  pub pb : Amount (a .pb)
+  pub pv : Amount (a .pv)
+  pub afs : Amount (a .afs)
+  pub rfs : Amount (a .rfs)
+  pub pa : Correction (a .pa)
+  pub ret : Correction (a .ret)
+
+pub amounts-fit : {k : ℕ} {a : Agent} → AgentFits k a → AmountsFit a
+amounts-fit f = record { pb = f .pb; pv = f .pv; afs = f .afs; rfs = f .rfs; pa = f .pa; ret = f .ret }
+
 -- the user line at the position k, from 1
 pub record UserFits (k : ℕ) (u : User) : Type 0 where
   pub number : u .number ≡ pos k

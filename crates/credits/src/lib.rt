@@ -1,0 +1,2 @@
+// Credits of a payee (paper 01): the agents in order, and then ONS. Each function equals its definition in `rules`.
+pub mod agent;
