@@ -5,7 +5,7 @@ use Prim.Native.Nat.{ℕ, zero, suc, _+_, _≤_, _<_}
 use native.Mathlib.Omega.{arith}
 use native.Mathlib.Numerals.{add-one}
 use lib.ListN.{length, take, drop, getD, set, length-append, length-drop, drop-of-length-le}
-use lib.Seq.{take-suc, drop-cons, length-take-le, set-at, append-snoc, take-all}
+use lib.Seq.{take-suc, drop-cons, length-take-le, set-at, append-snoc, take-all, getD-append-add, getD-drop}
 
 abbrev pub filled : {A : Type 0} → List A → List A → ℕ → List A
 filled new old i = take i new ++ drop i old
@@ -27,3 +27,37 @@ module _ {A : Type 0} (new old : List A) (same : length new ≡ length old) wher
 
   pub filled-all : (i : ℕ) → i ≡ length old → filled new old i ≡ new
   filled-all i e = ap₂ _++_ (take-all i new (omega arith)) (drop-of-length-le old {i = i} (omega arith)) ∙ append-nil new
+
+-- the state of such a loop after i entries
+pub record Filling {A : Type 0} (new old now : List A) (i : ℕ) : Type 0 where
+  pub here : i ≤ length old
+  pub so-far : now ≡ filled new old i
+
+pub filling-none : {A : Type 0} (new old : List A) → Filling new old old 0
+filling-none new old = record { here = omega arith; so-far = refl }
+
+module _ {A : Type 0} {new old now : List A} {i : ℕ} (same : length new ≡ length old) (f : Filling new old now i) where
+  pub filling-long : length now ≡ length old
+  filling-long = ap length (f .so-far) ∙ length-filled new old same i (f .here)
+
+  pub filling-more : {v : A} (d : A) → i < length old → v ≡ getD new i d → Filling new old (set now i v) (i + 1)
+  filling-more {v} d h e = record { here = omega arith; so-far = ap (λ (l : List A). set l i v) (f .so-far) ∙ filled-more new old same i d v h e }
+
+  -- what the loop finds at i is still the old entry
+  pub filling-next : (d : A) → getD now i d ≡ getD old i d
+  filling-next d =
+      ap (λ (l : List A). getD l i d) (f .so-far)
+      ∙ ap (λ (k : ℕ). getD (take i new ++ drop i old) k d) (omega (arith, length-take-le i new (omega (arith, f .here))))
+      ∙ getD-append-add (take i new) (drop i old) 0 d
+      ∙ getD-drop i old 0 d
+      ∙ ap (λ (k : ℕ). getD old k d) (omega arith)
+
+  pub filling-all : length old ≤ i → now ≡ new
+  filling-all h = f .so-far ∙ filled-all new old same i (omega (arith, f .here))
+
+-- the last entry, after a part of all before it was lent and filled
+pub set-last : {A : Type 0} (new old : List A) (n : ℕ) (v : A) → length old ≡ n + 1 → length new ≡ n → set (new ++ drop n old) n v ≡ new ++ v ∷ []
+set-last {A} new old n v h k =
+    ap (λ (l : List A). set (new ++ l) n v) (drop-cons old n v (omega arith))
+    ∙ set-at new (getD old n v) (drop (suc n) old) v n k
+    ∙ ap (λ (l : List A). new ++ v ∷ l) (drop-of-length-le old {i = suc n} (omega arith))

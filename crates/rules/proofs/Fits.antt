@@ -6,7 +6,7 @@ use mathlib.Core.List.{List}
 use lib.IntN.{ℤ, pos, negsuc}
 use lib.ListN.{length}
 use borrow.Author.Tests.{not-false}
-use Rattle.ints.specs.Range.{outside, Within, or-false, outside-false, eqZ-true}
+use Rattle.ints.specs.Range.{outside, Within, or-false, outside-false, within-false, eqZ-true}
 use Rattle.rules.specs.declared.Point.{Point}
 use Rattle.rules.specs.Verdict.{accepted}
 use Rattle.rules.specs.Calendar.{monthOfYear, impossibleMonth}
@@ -38,6 +38,10 @@ pub record Possible (m : ℤ) : Type 0 where
 pub possible : (m : ℤ) → impossibleMonth m ≡ false → Possible m
 unfolding impossibleMonth
 possible m e = let f = or-false _ _ e in record { year = outside-false _ _ _ (f .0); mm = outside-false _ _ _ (f .1) }
+
+pub not-impossible : {m : ℤ} → Possible m → impossibleMonth m ≡ false
+unfolding impossibleMonth
+not-impossible p = rw (within-false _ _ _ (p .year), within-false _ _ _ (p .mm))
 
 -- the agent line at the position k, from 1
 pub record AgentFits (k : ℕ) (a : Agent) : Type 0 where
