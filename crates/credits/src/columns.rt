@@ -57,16 +57,24 @@ pub fn pv_total(agents: &[[i64; 7]]) -> i64
     column_total(agents, PV)
 }
 
-// Writes all pb, the weights of the balance.
-pub fn pbs(agents: &[[i64; 7]], out: &mut [i64])
-    requires { ⌜ length (now out) ≡ length (now agents) ⌝ }
-    ensures { λ _. ⌜ now (out .exit) ≡ map (λ (a : Agent). a .pb) (map agentOf (now (agents .entry))) ⌝ }
+// Writes the column k.
+fn column(agents: &[[i64; 7]], k: usize, out: &mut [i64])
+    requires { ⌜ (k < 7) × (length (now out) ≡ length (now agents)) ⌝ }
+    ensures { λ _. ⌜ now (out .exit) ≡ column k (now (agents .entry)) ⌝ }
 {
     let n = agents.len();
     let mut i = 0;
     while i < n {
         let line = agents[i];
-        out[i] = line[PB];
+        out[i] = line[k];
         i += 1;
     }
+}
+
+// Writes all pb, the weights of the balance.
+pub fn pbs(agents: &[[i64; 7]], out: &mut [i64])
+    requires { ⌜ length (now out) ≡ length (now agents) ⌝ }
+    ensures { λ _. ⌜ now (out .exit) ≡ map (λ (a : Agent). a .pb) (map agentOf (now (agents .entry))) ⌝ }
+{
+    column(agents, PB, out);
 }

@@ -5,7 +5,7 @@ use mathlib.Core.Path.{_≡_}
 use mathlib.Core.Bool.{true}
 use borrow.Author.Needs.{needs}
 use lib.Dec.{T, leb, leb→le}
-use lib.IntN.{ℤ, pos, negsuc, _+ℤ_, +ℤ-idr}
+use lib.IntN.{ℤ, pos, negsuc, _+ℤ_, _-ℤ_, +ℤ-idr}
 use lib.Signed.{quotZ, ltZ}
 use mir.Syntax.{w64}
 use mir.Val.{SFits}
@@ -35,6 +35,11 @@ module _ {x : ℤ} (f : SFits w64 x) (e : ltZ x (pos 0) ≡ true) where
         rw (toZ-ofZ divided, toZ-ofZ (moved n t))
         (omega (za, quot-half 12 (omega za) (moved n t), add# (quotZ (x +ℤ pos n) (pos 12)) d))
 
+  down : back (back (quotZ (back (x +ℤ pos 1)) (pos 12)) -ℤ pos 1) ≡ floor x (pos 12)
+  down =
+      rw (toZ-ofZ (lowered 1 tt (negsuc 0) (omega arith)), toZ-ofZ (divided 1 tt), toZ-ofZ (moved 1 tt))
+      (quot-below x 12 (omega za))
+
 below : (c : tie.Then1) → ltZ (c .before .args .x) (pos 0) ≡ true
 below c = simp (toZ-ofZ, c .before .fits .x) at (c .if1 .taken)
 
@@ -48,11 +53,7 @@ sub-result : tie.Need-sub-result
 sub-result c = let f = c .before .fits .x in simp (toZ-ofZ, f) (lowered f (below c) _ tt _ (omega arith))
 
 returns : tie.Need-returns
-returns c =
-    let f = c .before .fits .x in
-    let b = below c in
-    rw (toZ-ofZ f, toZ-ofZ (lowered f b 1 tt (negsuc 0) (omega arith)), toZ-ofZ (divided f b 1 tt), toZ-ofZ (moved f b 1 tt))
-    (quot-below (c .before .args .x) 12 (omega za))
+returns c = let f = c .before .fits .x in simp (toZ-ofZ, f) (down f (below c))
 
 div-result-2 : tie.Need-div-result-2
 div-result-2 c = let f = c .before .fits .x in simp (toZ-ofZ, f) (omega za, quotient f)
