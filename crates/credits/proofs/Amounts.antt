@@ -22,7 +22,8 @@ use Rattle.rules.proofs.Fits.{possible}
 use Rattle.rules.proofs.Cycle.{cycle-within}
 use Rattle.rules.proofs.BoundsAgent.{agent-bounds, amount}
 use Rattle.rules.proofs.BoundsSums.{column}
-use Rattle.credits.specs.Payable.{AgentLines, Payable, balanceOf}
+use Rattle.credits.specs.Columns.{AgentLines}
+use Rattle.credits.specs.Payable.{Payable, balanceOf}
 
 small-of : {L H : ℕ} (K : ℕ) {xs : List ℤ} → Words L H xs → T (leb L K) → T (leb H K) → Small K xs
 small-of K w l h = record { small = λ i k. word-abs (word-wide K K (w .at i k) l h) }

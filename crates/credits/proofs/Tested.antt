@@ -17,7 +17,8 @@ use Rattle.rules.proofs.Ranged.{Ranged, ranged-passed}
 use Rattle.rules.proofs.ByLine.{pbs}
 use Rattle.rules.proofs.BoundsCharges.{charge-bounds}
 use Rattle.rules.proofs.BoundsCredits.{credit-bounds}
-use Rattle.credits.specs.Payable.{AgentLines, Payable}
+use Rattle.credits.specs.Columns.{AgentLines}
+use Rattle.credits.specs.Payable.{Payable}
 
 pub agent-lines : {credits : List ℤ} {l : Lines} → Ranged credits l → AgentLines (l .agents)
 agent-lines r = record { few = r .few-agents; line = λ i h. amounts-fit (r .agent i h) }

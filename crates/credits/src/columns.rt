@@ -5,7 +5,7 @@ ghost use mathlib.Core.List.{map};
 ghost use lib.ListN.{length};
 ghost use Rattle.ints.specs.Sums.{sumℤ, Small};
 ghost use Rattle.rules.specs.Lines.{Agent, agentOf};
-ghost use Rattle.credits.specs.Payable.{AgentLines, column};
+ghost use Rattle.credits.specs.Columns.{AgentLines, column};
 
 // Columns of an agent line.
 const PB: usize = 1;

@@ -13,11 +13,14 @@ ghost use Rattle.rules.specs.Lines.{agentOf};
 ghost use Rattle.rules.specs.Credits.{ownCredit};
 ghost use Rattle.rules.specs.Lists.{sideBySide};
 ghost use Rattle.rules.proofs.Fits.{Amount};
-ghost use Rattle.credits.specs.Payable.{AgentLines, Payable, agentVCs, VCsFrom};
+ghost use Rattle.credits.specs.Columns.{AgentLines};
+ghost use Rattle.credits.specs.Payable.{Payable, agentVCs, VCsFrom};
 
 // Writes VMST + VMPA + ret of each agent.
 pub fn own_credits(month: i64, agents: &[[i64; 7]], out: &mut [i64])
-    requires { ⌜ (impossibleMonth month ≡ false) × AgentLines (map agentOf (now agents)) × (length (now out) ≡ length (now agents)) ⌝ }
+    requires { ⌜ (impossibleMonth month ≡ false)
+        × AgentLines (map agentOf (now agents))
+        × (length (now out) ≡ length (now agents)) ⌝ }
     ensures { λ _. ⌜ now (out .exit) ≡ map (ownCredit month) (map agentOf (now (agents .entry))) ⌝ }
 {
     let n = agents.len();
@@ -38,7 +41,9 @@ pub fn smse(debits: i64, own: i64, ons: i64) -> i64
 
 // Adds each part to its entry.
 fn add_each(parts: &[i64], out: &mut [i64])
-    requires { ⌜ Small 1792000000000000 (now parts) × Small 400000000000 (now out) × (length (now parts) ≡ length (now out)) ⌝ }
+    requires { ⌜ Small 1792000000000000 (now parts)
+        × Small 400000000000 (now out)
+        × (length (now parts) ≡ length (now out)) ⌝ }
     ensures { λ _. ⌜ now (out .exit) ≡ sideBySide _+ℤ_ (now (out .entry)) (now (parts .entry)) ⌝ }
 {
     let n = parts.len();
@@ -59,7 +64,10 @@ fn agent_credits(
     vmant: &mut [i64],
     vc: &mut [i64],
 )
-    requires { ⌜ Payable month ons debits (map agentOf (now agents)) × (length (now pb) ≡ length (now agents)) × (length (now vmant) ≡ length (now agents)) × (length (now vc) ≡ length (now agents)) ⌝ }
+    requires { ⌜ Payable month ons debits (map agentOf (now agents))
+        × (length (now pb) ≡ length (now agents))
+        × (length (now vmant) ≡ length (now agents))
+        × (length (now vc) ≡ length (now agents)) ⌝ }
     ensures { λ _. ⌜ now (vc .exit) ≡ agentVCs month ons debits (map agentOf (now (agents .entry))) ⌝ }
 {
     own_credits(month, agents, vc);

@@ -12,7 +12,7 @@ use mir.Facts.{toZ-ofZ}
 use Rattle.ints.specs.Fill.{Filling, filling-none, filling-long, filling-more, filling-all}
 use Rattle.rules.specs.Lists.{getD-map}
 use Rattle.rules.specs.Lines.{Agent, agentOf}
-use Rattle.credits.specs.Payable.{column}
+use Rattle.credits.specs.Columns.{column}
 use Rattle.credits.proofs.columns.column.Statement.{statement}
 use Rattle.credits.proofs.columns.column.Tie as tie
 

@@ -11,7 +11,7 @@ use mir.Val.{SFits, toZ}
 use mir.Facts.{toZ-ofZ}
 use Rattle.ints.specs.Adding.{Added, added-none, added-more, added-fits, added-all}
 use Rattle.rules.specs.Lists.{getD-map}
-use Rattle.credits.specs.Payable.{column}
+use Rattle.credits.specs.Columns.{column}
 use Rattle.credits.proofs.columns.column_total.Statement.{statement}
 use Rattle.credits.proofs.columns.column_total.Tie as tie
 

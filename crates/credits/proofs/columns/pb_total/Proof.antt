@@ -7,7 +7,7 @@ use mir.Syntax.{w64}
 use mir.Val.{SFits}
 use mir.Facts.{toZ-ofZ}
 use Rattle.ints.specs.Sums.{sumℤ}
-use Rattle.credits.specs.Payable.{pb-column}
+use Rattle.credits.specs.Columns.{pb-column}
 use Rattle.credits.proofs.Amounts.{pb-small}
 use Rattle.credits.proofs.columns.pb_total.Statement.{statement}
 use Rattle.credits.proofs.columns.pb_total.Tie as tie

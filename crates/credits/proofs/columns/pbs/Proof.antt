@@ -1,7 +1,7 @@
 -- The column as rules names it.
 use mathlib.Core.Path.{_≡_, _∙_}
 use borrow.Author.Needs.{needs}
-use Rattle.credits.specs.Payable.{pb-column}
+use Rattle.credits.specs.Columns.{pb-column}
 use Rattle.credits.proofs.columns.pbs.Statement.{statement}
 use Rattle.credits.proofs.columns.pbs.Tie as tie
 

@@ -7,7 +7,7 @@ use mir.Syntax.{w64}
 use mir.Val.{SFits}
 use mir.Facts.{toZ-ofZ}
 use Rattle.ints.specs.Sums.{sumℤ}
-use Rattle.credits.specs.Payable.{pv-column}
+use Rattle.credits.specs.Columns.{pv-column}
 use Rattle.credits.proofs.Amounts.{pv-small}
 use Rattle.credits.proofs.columns.pv_total.Statement.{statement}
 use Rattle.credits.proofs.columns.pv_total.Tie as tie
