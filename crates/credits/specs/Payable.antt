@@ -34,6 +34,13 @@ agentVCs month ons debits agents =
     sideBySide _+ℤ_ (map (ownCredit month) agents)
     (runningShare (balanceOf month ons debits agents) (map (λ (a : Agent). a .pb) agents))
 
+-- what working them out answers and leaves in its slices: the balance, the weights, each agent's part of the balance, its credit
+pub record AgentCredits (month ons debits : ℤ) (agents : List Agent) (balance : ℤ) (pb vmant vc : List ℤ) : Type 0 where
+  pub SMSE : balance ≡ balanceOf month ons debits agents
+  pub weights : pb ≡ map (λ (a : Agent). a .pb) agents
+  pub VMANTs : vmant ≡ runningShare (balanceOf month ons debits agents) (map (λ (a : Agent). a .pb) agents)
+  pub VCs : vc ≡ agentVCs month ons debits agents
+
 -- and ONS's
 unfoldable pub VCsFrom : ℤ → ℤ → ℤ → List Agent → List ℤ
 VCsFrom month ons debits agents = agentVCs month ons debits agents ++ ons ∷ []

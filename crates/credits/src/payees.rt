@@ -14,7 +14,7 @@ ghost use Rattle.rules.specs.Credits.{ownCredit};
 ghost use Rattle.rules.specs.Lists.{sideBySide};
 ghost use Rattle.rules.proofs.Fits.{Amount};
 ghost use Rattle.credits.specs.Columns.{AgentLines};
-ghost use Rattle.credits.specs.Payable.{Payable, agentVCs, VCsFrom};
+ghost use Rattle.credits.specs.Payable.{Payable, AgentCredits, VCsFrom};
 
 // Writes VMST + VMPA + ret of each agent.
 pub fn own_credits(month: i64, agents: &[[i64; 7]], out: &mut [i64])
@@ -54,8 +54,8 @@ fn add_each(parts: &[i64], out: &mut [i64])
     }
 }
 
-// The agents' credits: their own, and their parts of the balance over pb. The other two slices are for work.
-fn agent_credits(
+// Writes the agents' credits: their own, and their parts of the balance over pb, which it writes too. Answers the balance.
+pub fn agent_credits(
     month: i64,
     ons: i64,
     debits: i64,
@@ -63,18 +63,19 @@ fn agent_credits(
     pb: &mut [i64],
     vmant: &mut [i64],
     vc: &mut [i64],
-)
+) -> i64
     requires { ⌜ Payable month ons debits (map agentOf (now agents))
         × (length (now pb) ≡ length (now agents))
         × (length (now vmant) ≡ length (now agents))
         × (length (now vc) ≡ length (now agents)) ⌝ }
-    ensures { λ _. ⌜ now (vc .exit) ≡ agentVCs month ons debits (map agentOf (now (agents .entry))) ⌝ }
+    ensures { λ r. ⌜ AgentCredits month ons debits (map agentOf (now (agents .entry))) r (now (pb .exit)) (now (vmant .exit)) (now (vc .exit)) ⌝ }
 {
     own_credits(month, agents, vc);
     let balance = smse(debits, crate::columns::total(vc), ons);
     crate::columns::pbs(agents, pb);
     share::fill(balance, crate::columns::pb_total(agents), pb, vmant);
     add_each(vmant, vc);
+    balance
 }
 
 // Writes the credit of every payee: the agents in order, and then ONS, with ons.

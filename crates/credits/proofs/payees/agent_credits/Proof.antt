@@ -122,7 +122,14 @@ returns : tie.Need-returns
 unfolding agentVCs
 returns c =
     let f = c .before .before .before .before .before in
-    rw (parts-are f, own-is (o f)) at (c .before .add-each .ensures)
+    let w = f .before .before .before .before .before in
+    let b = w .before .before in
+    record {
+      SMSE = toZ-ofZ (balance-fits b) ∙ balance-is b;
+      weights = w .pbs .ensures;
+      VMANTs = parts-are f;
+      VCs = rw (parts-are f, own-is (o f)) at (c .before .add-each .ensures);
+    }
 
 pub agent-credits-spec : {M : Type 1} → statement M
 agent-credits-spec =

@@ -59,7 +59,7 @@ returns c =
     let d = c .before .before .before in
     let s = d .before .before .before .before in
     let k = d .agent-credits .kept .1 .1 .1 .1 .1 .1 .0 in
-    let e = rw (toZ-ofZ (s .fits .month), toZ-ofZ (s .fits .ons), toZ-ofZ (s .fits .debits)) at (d .agent-credits .ensures) in
+    let e = rw (toZ-ofZ (s .fits .month), toZ-ofZ (s .fits .ons), toZ-ofZ (s .fits .debits)) at (d .agent-credits .ensures .VCs) in
     rw (toZ-ofZ (s .fits .ons))
     (set-last (d .agent-credits .last .1 .1 .1 .1 .1 .1 .0) (s .args .vc .now) _ (s .args .ons) (s .pre .1) (k ∙ length-take-le _ _ (omega arith)) ∙ ap (λ (l : List ℤ). l ++ s .args .ons ∷ []) e)
 
