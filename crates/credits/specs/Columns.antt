@@ -3,7 +3,8 @@ use Prim.Native.Nat.{ℕ, _≤_, _<_}
 use mathlib.Core.Path.{_≡_, sym}
 use mathlib.Core.List.{List, [], map, map-map}
 use lib.IntN.{ℤ, pos}
-use lib.ListN.{length, getD}
+use lib.ListN.{length, getD, length-map}
+use Rattle.rules.specs.Lists.{getD-map}
 use Rattle.rules.specs.Lines.{Agent, agentOf}
 use Rattle.rules.proofs.Fits.{AmountsFit}
 
@@ -11,6 +12,10 @@ use Rattle.rules.proofs.Fits.{AmountsFit}
 pub record AgentLines (agents : List Agent) : Type 0 where
   pub few : length agents ≤ 256
   pub line : (i : ℕ) → i < length agents → AmountsFit (getD agents i (agentOf []))
+
+-- the line i as it stands in a slice
+pub line-at : (lines : List (List ℤ)) → AgentLines (map agentOf lines) → (i : ℕ) → i < length lines → AmountsFit (agentOf (getD lines i []))
+line-at lines a i h = rw (getD-map agentOf lines i [] (agentOf []) h) at (a .line i (rw length-map h))
 
 -- the column k of lines as they stand in a slice
 abbrev pub column : ℕ → List (List ℤ) → List ℤ

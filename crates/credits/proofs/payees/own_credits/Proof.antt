@@ -13,7 +13,7 @@ use Rattle.ints.specs.Fill.{Filling, filling-none, filling-long, filling-more, 
 use Rattle.rules.specs.Lists.{getD-map}
 use Rattle.rules.specs.Lines.{Agent, agentOf}
 use Rattle.rules.specs.Credits.{ownCredit}
-use Rattle.rules.proofs.Fits.{AmountsFit}
+use Rattle.credits.specs.Columns.{line-at}
 use Rattle.credits.proofs.payees.own_credits.Statement.{statement}
 use Rattle.credits.proofs.payees.own_credits.Tie as tie
 
@@ -49,9 +49,7 @@ shared-slice-copy-out-own-credit c = search needs
 own-credit-requires : tie.Need-own-credit-requires Inv-loop μ-loop
 own-credit-requires c κs =
     let s = c .before .before .before in
-    let h = c .before .loop-test .taken in
-    let l : AmountsFit (getD (map agentOf (s .args .agents .now)) (c .before .before .loop .i) (agentOf [])) = s .pre .1 .line _ (rw length-map h) in
-    rw (toZ-ofZ (s .fits .month)) (s .pre .0, rw (getD-map agentOf (s .args .agents .now) (c .before .before .loop .i) [] (agentOf []) h) at l)
+    rw (toZ-ofZ (s .fits .month)) (s .pre .0, line-at (s .args .agents .now) (s .pre .1) (c .before .before .loop .i) (c .before .loop-test .taken))
 
 mul-t11 : tie.Need-mul-t11 Inv-loop μ-loop
 mul-t11 c = search needs
