@@ -1,2 +1,5 @@
--- What follows from the definitions of specs/: `Scanned` is what a whole scan comes to.
+-- What follows from the definitions of specs/: `Scanned` is what a whole scan comes to, `Amounts` that a month's amounts are those of
+-- `rules`, `Ready` that a closing can show all that they ask for.
 pub mod Scanned
+pub mod Amounts
+pub mod Ready

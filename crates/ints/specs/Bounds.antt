@@ -1,6 +1,6 @@
 -- Bounds of sums, differences, products and floors, each with its fit in 64 bits. A bound that is a numeral is computed, so that the
 -- last argument of each law is `tt`.
-use mathlib.Core.Path.{_≡_, refl, sym, ap, subst}
+use mathlib.Core.Path.{_≡_, refl, ap, subst}
 use mathlib.Core.List.{List, [], _∷_}
 use Prim.Native.Nat.{ℕ, zero, suc, zero-le, suc-le-suc, _+_, _*_, _/_, _^_, _≤_, _<_}
 use native.Mathlib.Omega.{arith}
@@ -13,7 +13,7 @@ use mir.Syntax.{w64}
 use mir.Val.{SFits}
 use Rattle.ints.specs.Bridge.{up, dn, abs, za, add#, sub#, mul#, one#}
 use Rattle.ints.specs.Sums.{sumℤ, Small, small-tail, sum-end, NonNeg, sum-nonneg, sum-take-nonneg, sum-take-le}
-use Rattle.ints.specs.Floor.{floor, floor-is, floor-in}
+use Rattle.ints.specs.Floor.{floor}
 
 -- −below ≤ x ≤ above, and x fits 64 bits
 pub record Word (below above : ℕ) (x : ℤ) : Type 0 where

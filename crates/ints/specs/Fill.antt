@@ -5,7 +5,7 @@ use Prim.Native.Nat.{ℕ, zero, suc, _+_, _≤_, _<_}
 use native.Mathlib.Omega.{arith}
 use native.Mathlib.Numerals.{add-one}
 use lib.ListN.{length, take, drop, getD, set, length-append, length-drop, drop-of-length-le}
-use lib.Seq.{take-suc, drop-cons, length-take-le, set-at, append-snoc, take-all, getD-append-add, getD-drop}
+use lib.Seq.{take-suc, drop-cons, length-take-le, set-at, getD-at, append-snoc, take-all}
 
 abbrev pub filled : {A : Type 0} → List A → List A → ℕ → List A
 filled new old i = take i new ++ drop i old
@@ -17,10 +17,16 @@ module _ {A : Type 0} (new old : List A) (same : length new ≡ length old) wher
   pub length-filled : (i : ℕ) → i ≤ length old → length (filled new old i) ≡ length old
   length-filled i h = simp (length-append, length-drop) (omega (arith, length-take-le i new (omega arith)))
 
+  -- the entry at i is still the old one
+  pub filled-next : (i : ℕ) (d : A) → i < length old → getD (filled new old i) i d ≡ getD old i d
+  filled-next i d h =
+      ap (λ (l : List A). getD (take i new ++ l) i d) (drop-cons old i d h)
+      ∙ getD-at (take i new) (getD old i d) (drop (suc i) old) d i (length-take-le i new (omega arith))
+
   -- one more entry, at i
-  pub filled-more : (i : ℕ) (d v : A) → i < length old → v ≡ getD new i d → set (filled new old i) i v ≡ filled new old (i + 1)
-  filled-more i d v h e =
-      ap (λ (l : List A). set (take i new ++ l) i v) (drop-cons old i d h)
+  pub filled-more : {xs : List A} (i : ℕ) (d v : A) → xs ≡ filled new old i → i < length old → v ≡ getD new i d → set xs i v ≡ filled new old (i + 1)
+  filled-more i d v f h e =
+      ap (λ (l : List A). set l i v) (f ∙ ap (λ (l : List A). take i new ++ l) (drop-cons old i d h))
       ∙ set-at (take i new) (getD old i d) (drop (suc i) old) v i (length-take-le i new (omega arith))
       ∙ ap (λ (x : A). take i new ++ x ∷ drop (suc i) old) e
       ∙ sym (rw (add-one, take-suc new i d (omega arith)) (append-snoc (take i new) (getD new i d) (drop (suc i) old)))
@@ -41,16 +47,11 @@ module _ {A : Type 0} {new old now : List A} {i : ℕ} (same : length new ≡ le
   filling-long = ap length (f .so-far) ∙ length-filled new old same i (f .here)
 
   pub filling-more : {v : A} (d : A) → i < length old → v ≡ getD new i d → Filling new old (set now i v) (i + 1)
-  filling-more {v} d h e = record { here = omega arith; so-far = ap (λ (l : List A). set l i v) (f .so-far) ∙ filled-more new old same i d v h e }
+  filling-more {v} d h e = record { here = omega arith; so-far = filled-more new old same i d v (f .so-far) h e }
 
   -- what the loop finds at i is still the old entry
-  pub filling-next : (d : A) → getD now i d ≡ getD old i d
-  filling-next d =
-      ap (λ (l : List A). getD l i d) (f .so-far)
-      ∙ ap (λ (k : ℕ). getD (take i new ++ drop i old) k d) (omega (arith, length-take-le i new (omega (arith, f .here))))
-      ∙ getD-append-add (take i new) (drop i old) 0 d
-      ∙ getD-drop i old 0 d
-      ∙ ap (λ (k : ℕ). getD old k d) (omega arith)
+  pub filling-next : (d : A) → i < length old → getD now i d ≡ getD old i d
+  filling-next d h = ap (λ (l : List A). getD l i d) (f .so-far) ∙ filled-next new old same i d h
 
   pub filling-all : length old ≤ i → now ≡ new
   filling-all h = f .so-far ∙ filled-all new old same i (omega (arith, f .here))

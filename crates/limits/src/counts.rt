@@ -27,21 +27,20 @@ pub fn bad_counts(ledger: Ledger, users: u64, agents: u64, points: u64) -> bool
         | (ledger.month != 0) & crate::months::impossible_month(ledger.month)
 }
 
-// 2: the first slice that is too short for counts within their limits.
-pub fn short_slices(ledger: Ledger, held: u64, cells: u64, work: u64) -> Answer
-    requires { ⌜ (ledger .users ≤ 512) × (ledger .agents ≤ 256) ⌝ }
-    ensures { λ r. ⌜ ((credits : List ℤ) → verdictOf r
-        ≡ shortSlices (stateOf ledger credits) (record { held = held; cells = cells; work = work })) ⌝ }
+// 2: the first slice that is too short, for counts that passed 1; month and credits play no part.
+pub fn short_slices(users: u64, agents: u64, held: u64, cells: u64, work: u64) -> Answer
+    requires { ⌜ (users ≤ 512) × (agents ≤ 256) ⌝ }
+    ensures { λ r. ⌜ ((month : ℤ) (credits : List ℤ) → verdictOf r
+        ≡ shortSlices (record { users = users; agents = agents; month = month; credits = credits }) (record { held = held; cells = cells; work = work })) ⌝ }
 {
-    let users = ledger.users;
-    let payees = ledger.agents + 1;
+    let needed = (agents + 1) * users;
     if held < users {
         return Answer::Refused(2, 1);
     }
-    if cells < payees * users {
+    if cells < needed {
         return Answer::Refused(2, 2);
     }
-    if work < 2 * (payees * users) + 4 * (payees + users) {
+    if work < 2 * needed + 4 * (agents + 1 + users) {
         return Answer::Refused(2, 3);
     }
     Answer::Accepted

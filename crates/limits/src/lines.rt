@@ -27,7 +27,7 @@ pub fn bad_correction(x: i64) -> bool
     ints::outside(-AMOUNT, AMOUNT, x)
 }
 
-// Whether a line's number is its position.
+// Whether a line's number is its position; k may pass what an i64 holds, so x is compared by its size.
 fn is_number(x: i64, k: u64) -> bool
     ensures { λ r. ⌜ r ≡ eqZ x (pos k) ⌝ }
 {

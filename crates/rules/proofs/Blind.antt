@@ -1,7 +1,7 @@
 -- What an amount does not look at: the overrun not at the discounts, and compensation not at the verified powers, so that neither a
 -- discounted overrun nor a weight with overruns in it would pass.
 use Prim.Native.Nat.{ℕ}
-use mathlib.Core.Path.{_≡_, refl, ap, ap₂, _∙_}
+use mathlib.Core.Path.{_≡_, refl, ap₂}
 use mathlib.Core.Bool.{cond}
 use mathlib.Core.List.{List, [], _∷_, map}
 use lib.IntN.{ℤ, pos, _+ℤ_}

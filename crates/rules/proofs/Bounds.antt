@@ -2,17 +2,19 @@
 -- Only the products of the running share and of the cells need two words.
 use Prim.Native.Nat.{ℕ, suc, _+_, _^_, _<_}
 use native.Mathlib.Omega.{arith}
-use mathlib.Core.Path.{_≡_, refl, _∙_, sym}
+use mathlib.Core.Path.{_≡_, refl}
 use mathlib.Core.Logic.{_≢_}
 use mathlib.Core.List.{List, [], _∷_, map}
 use lib.Dec.{T, ltb}
 use lib.IntN.{ℤ, pos, _*ℤ_}
-use lib.ListN.{length, getD}
+use lib.ListN.{length, getD, take}
+use lib.Seq.{length-take-le}
 use lib.Signed.{_<ℤ_}
 use Rattle.ints.specs.Bridge.{za, add#}
 use Rattle.ints.specs.Bounds.{Word, word, word-nonneg, word-within}
 use Rattle.ints.specs.Floor.{floor, floor-share}
 use Rattle.ints.specs.Sums.{sumℤ, entry-le-sum}
+use Rattle.rules.specs.declared.Ledger.{Ledger}
 use Rattle.rules.specs.declared.Point.{Point}
 use Rattle.rules.specs.Verdict.{accepted}
 use Rattle.rules.specs.Lines.{Lines, pointOf}
@@ -20,6 +22,7 @@ use Rattle.rules.specs.Charges.{halfUp, orZero, useCharge, allowance, ex
 use Rattle.rules.specs.Credits.{VCs}
 use Rattle.rules.specs.Table.{Cell, rounded-down, rounded-up}
 use Rattle.rules.specs.Refusals.{State, Lengths, refusal}
+use Rattle.rules.specs.Calls.{stateOf, lengthsOf, closingRefusal}
 use Rattle.rules.proofs.Sizes.{length-VDs}
 use Rattle.rules.proofs.Passed.{Passed, passed}
 use Rattle.rules.proofs.Ranged.{ranged-passed}
@@ -52,10 +55,20 @@ either {x = x} {S} w (rounded-down e) t = rw e (word (w .low) (omega arith) t)
 either {x = x} {S} w (rounded-up e z) t = rw e (word (omega (arith, add# (floor x S) (pos 1))) (omega (arith, add# (floor x S) (pos 1))) t)
 
 -- once test 10 is passed too
-pub cell-bounds : {credits : List ℤ} {l : Lines} → length credits ≡ length (l .users) → ChargeBounds credits l → CreditBounds credits l → sumℤ (VDs credits l) ≢ pos 0 → CellBounds credits l
+pub cell-bounds :
+    {credits : List ℤ} {l : Lines}
+    → length credits ≡ length (l .users)
+    → ChargeBounds credits l
+    → CreditBounds credits l
+    → sumℤ (VDs credits l) ≢ pos 0
+    → CellBounds credits l
 cell-bounds {credits} {l} w b c z = record { floor-at = at; cell-at = λ i j h k. λ v. either (at i j h k) v tt }
   where
-    at : (i j : ℕ) → i < suc (length (l .agents)) → j < length (l .users) → Word 1792400000000000 1792400000000000 (floor (getD (VCs credits l) i (pos 0) *ℤ getD (VDs credits l) j (pos 0)) (sumℤ (VDs credits l)))
+    at :
+        (i j : ℕ)
+        → i < suc (length (l .agents))
+        → j < length (l .users)
+        → Word 1792400000000000 1792400000000000 (floor (getD (VCs credits l) i (pos 0) *ℤ getD (VDs credits l) j (pos 0)) (sumℤ (VDs credits l)))
     at i j h k =
         word-within 1792400000000000 _
         (floor-share (getD (VCs credits l) i (pos 0)) (getD (VDs credits l) j (pos 0)) (sumℤ (VDs credits l))
@@ -74,6 +87,12 @@ bounds s n l w p =
 
 pub bounds-accepted : (s : State) (n : Lengths) (l : Lines) → length (s .credits) ≡ s .users → refusal s n l ≡ accepted → Bounds (s .credits) l
 bounds-accepted s n l w e = bounds s n l w (passed s n l e)
+
+-- an accepted closing on this ledger and these slices
+pub bounds-closing : (g : Ledger) (held cells : List ℤ) (work : List ℕ) (l : Lines) → closingRefusal g held cells work l ≡ accepted → Bounds (take (g .users) held) l
+bounds-closing g held cells work l e =
+    let p = passed (stateOf g held) (lengthsOf held cells work) l e in
+    bounds (stateOf g held) (lengthsOf held cells work) l (length-take-le (g .users) held (p .held)) p
 
 -- all debits of a month are less than 2 × 10^15
 pub debits-small : (s : State) (n : Lengths) (l : Lines) → length (s .credits) ≡ s .users → Passed s n l → sumℤ (VDs (s .credits) l) <ℤ pos 2000000000000000

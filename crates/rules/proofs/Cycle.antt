@@ -12,7 +12,7 @@ use lib.ListN.{getD}
 use lib.IntN.{ℤ, pos, _+ℤ_, _-ℤ_, _*ℤ_}
 use lib.Signed.{ltZ}
 use Rattle.ints.specs.Bridge.{za, up, dn, add#, sub#, mul#, one#}
-use Rattle.ints.specs.Computed.{below, below-at, below-both}
+use Rattle.ints.specs.Computed.{below, below-both}
 use Rattle.ints.specs.Floor.{floor, Floor#, floor-is, floor-in}
 use Rattle.ints.specs.Range.{Within, outside, eqZ, eqZ-true}
 use Rattle.ints.specs.Sums.{Σ<, Σ-ext}

@@ -4,6 +4,7 @@ use Prim.Native.Nat.{ℕ, _+_, _^_}
 use mathlib.Core.Path.{_≡_, refl}
 use mathlib.Core.List.{List, [], _∷_, _++_, map}
 use lib.IntN.{ℤ, pos, negℤ}
+use lib.ListN.{replicate}
 use Rattle.ints.specs.Floor.{floor}
 use Rattle.ints.specs.Range.{outside}
 use Rattle.ints.specs.Sums.{sumℤ}
@@ -11,8 +12,10 @@ use Rattle.share.specs.Running.{part, partsFrom, runningShare}
 use Rattle.rules.specs.Verdict.{Verdict, accepted, refused, eachLine}
 use Rattle.rules.specs.Lists.{eachFrom, sideBySide}
 use Rattle.rules.specs.Calendar.{monthOfYear, impossibleMonth}
-use Rattle.rules.specs.Lines.{Lines, agentOf, userOf, pointOf, kindOf, badAgent, badUser, badPoint, unfitPoint}
-use Rattle.rules.specs.Charges.{halfUp, orZero, useCharge, allowance, excess, overrun, ofUser, EUSTs, VMEs, pvTotal, CPVs, ns, VDs}
+use Rattle.rules.specs.declared.Point.{Point}
+use Rattle.rules.specs.Lines.{distributor, consumer, generator, Lines, agentOf, userOf, pointOf, kindOf, badAgent, badUser, badPoint, unfitPoint}
+use Rattle.rules.specs.Charges.{halfUp, orZero, useCharge, allowance, excess, overrun, ofUser, VME, EUSTs, VMEs, pvTotal, CPVs, ns, VDs}
+use Rattle.rules.specs.Credits.{VMST}
 use Rattle.rules.specs.Refusals.{Lengths, badCounts, shortSlices, badMonth, lineTests, sumTests, refusal, openingRefusal}
 
 -- ---- small months
@@ -72,9 +75,10 @@ unfoldable pub bySelf : List Case
 bySelf =
     -- nothing wrong
     (close (lines (a1 ∷ []) (u1 ∷ []) (p1 ∷ [])), accepted)
-    -- 1: no user lines; a count unlike the ledger's; a last closed month that is not possible; an opening for none, for too many
+    -- 1: no user lines; a count unlike the ledger's; 1,025 points; a last closed month that is not possible; an opening for none, for too many
     ∷ (close (lines (a1 ∷ []) [] []), refused 1 0)
     ∷ (close (lines (a1 ∷ []) (u1 ∷ u2 ∷ []) (p1 ∷ [])), refused 1 0)
+    ∷ (close (lines (a1 ∷ []) (u1 ∷ []) (replicate 1025 p1)), refused 1 0)
     ∷ (refusal (record { users = 1; agents = 1; month = pos 202400; credits = pos 0 ∷ [] }) room (lines (a1 ∷ []) (u1 ∷ []) (p1 ∷ [])), refused 1 0)
     ∷ (openingRefusal 0 1 5, refused 1 0)
     ∷ (openingRefusal 513 1 513, refused 1 0)
@@ -138,3 +142,26 @@ inOrder =
 pub refusals : map (λ (c : Case). c .0) (bySelf ++ inOrder) ≡ map (λ (c : Case). c .1) (bySelf ++ inOrder)
 unfolding bySelf inOrder refusal openingRefusal badCounts shortSlices badMonth lineTests sumTests eachLine impossibleMonth monthOfYear outside badAgent badUser badPoint unfitPoint kindOf pvTotal EUSTs VMEs CPVs ns VDs eachFrom sideBySide ofUser useCharge overrun excess allowance orZero halfUp floor sumℤ runningShare partsFrom part
 refusals = refl
+
+-- ---- amounts that the cases by hand leave out
+-- a point of 100 kW that verified vp, at a tariff of 1 real: overrun begins above 110, 105 and 101 percent
+abbrev measured : ℤ → Point
+measured vp = pointOf (pos 1 ∷ pos 1000 ∷ pos 0 ∷ pos 0 ∷ pos 0 ∷ pos 100 ∷ pos 0 ∷ vp ∷ pos 0 ∷ [])
+
+unfoldable pub amounts : List (ℤ × ℤ)
+amounts =
+    (overrun distributor (measured (pos 110)), pos 0)
+    ∷ (overrun distributor (measured (pos 111)), pos 300)
+    ∷ (overrun consumer (measured (pos 105)), pos 0)
+    ∷ (overrun consumer (measured (pos 106)), pos 300)
+    ∷ (overrun generator (measured (pos 101)), pos 0)
+    ∷ (overrun generator (measured (pos 102)), pos 300)
+    -- VME adds the correction: use 10,000, overrun 300, ret −7
+    ∷ (VME (measured (pos 106) ∷ []) 1 (userOf (pos 1 ∷ consumer ∷ negℤ (pos 7) ∷ [])), pos 10293)
+    -- VMST adds afs and takes pv and rfs: 1000 − 30 + 7 − 5
+    ∷ (VMST (agentOf (pos 1 ∷ pos 1000 ∷ pos 30 ∷ pos 7 ∷ pos 5 ∷ pos 0 ∷ pos 0 ∷ [])), pos 972)
+    ∷ []
+
+pub amounts-right : map (λ (c : ℤ × ℤ). c .0) amounts ≡ map (λ (c : ℤ × ℤ). c .1) amounts
+unfolding amounts VMST ofUser useCharge overrun excess allowance orZero halfUp floor
+amounts-right = refl

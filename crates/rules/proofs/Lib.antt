@@ -2,18 +2,22 @@
 --
 -- An accepted month: `Tests` takes a list of tests apart; `Fits` is a line with every value in its range; `Passed` is all that an
 -- accepted month has passed; `Sizes`, `Entries` and `ByLine` are the lengths and the entries of its lists of amounts.
+-- A loop over its lines: `Turns` is one test of each line, turn by turn; `Answers` reads an answer off its verdict.
 -- Its table: `Near` is the one cent; `Slice` reads a table in the slice that it stands in.
 -- Demand 3: `Steps` holds one closing to one step of the tally, `Follow` a list of them, and `Demand` states the theorem.
 -- It is not empty: `Promise` proves a call's promise by cases, `Some` that promised lists of calls exist, and `Worked` is one.
 -- Guards, which a wrong definition would break: `Totals`, `Blind` (what an amount does not look at), `Cycle`, `Examples` of refusals;
 -- `Sides` has the sums that they need.
--- What code relies on: `Bounds` of every amount in an accepted month, from `BoundsPoint`, `PerUser`, `BoundsCharges`, `BoundsCredits`.
--- `Balanced` has the totals of every accepted month.
+-- What code relies on: `Bounds` of every amount. `Ranged` is what tests 1 to 7 give; on it stand, by the tests that each needs besides,
+-- `BoundsSums` (none; from `BoundsPoint`, `BoundsAgent` and `PerUser`), `BoundsCharges` (9), `BoundsCredits` (8, 9), the cells (10).
+-- `MonthTotals` has the totals of every accepted month.
 pub mod Tests
 pub mod Fits
 pub mod Passed
 pub mod Sizes
 pub mod Entries
+pub mod Turns
+pub mod Answers
 pub mod Near
 pub mod Slice
 pub mod Steps
@@ -36,4 +40,4 @@ pub mod BoundsSums
 pub mod BoundsCharges
 pub mod BoundsCredits
 pub mod Bounds
-pub mod Balanced
+pub mod MonthTotals

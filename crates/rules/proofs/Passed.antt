@@ -111,13 +111,14 @@ month-after : (s : State) (l : Lines) → badMonth (s .month) (l .month) ≡ fal
 unfolding badMonth
 month-after s l e = let f = or-false _ _ e in (possible _ (f .0), lt-out (leZ-false (l .month) (s .month) (f .1)))
 
-record LinesPassed (l : Lines) : Type 0 where
-  ons : Amount (l .ons)
-  agent : (i : ℕ) → i < length (l .agents) → AgentFits (suc i) (getD (l .agents) i (agentOf []))
-  user : (j : ℕ) → j < length (l .users) → UserFits (suc j) (getD (l .users) j (userOf []))
-  point : (k : ℕ) → k < length (l .points) → PointPassed (l .users) (getD (l .points) k (pointOf []))
+-- ons and the lines of each block
+pub record LinesPassed (l : Lines) : Type 0 where
+  pub ons : Amount (l .ons)
+  pub agent : (i : ℕ) → i < length (l .agents) → AgentFits (suc i) (getD (l .agents) i (agentOf []))
+  pub user : (j : ℕ) → j < length (l .users) → UserFits (suc j) (getD (l .users) j (userOf []))
+  pub point : (k : ℕ) → k < length (l .points) → PointPassed (l .users) (getD (l .points) k (pointOf []))
 
-lines-passed : (l : Lines) → lineTests l ≡ accepted → LinesPassed l
+pub lines-passed : (l : Lines) → lineTests l ≡ accepted → LinesPassed l
 unfolding lineTests
 lines-passed l e =
     let a = when-then _ 5 0 _ e in

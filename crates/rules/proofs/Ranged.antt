@@ -9,10 +9,10 @@ use lib.IntN.{ℤ, pos}
 use Rattle.ints.specs.Range.{Within, outside-false}
 use Rattle.rules.specs.Verdict.{accepted, eachLine}
 use Rattle.rules.specs.Lines.{Lines, agentOf, userOf, pointOf}
-use Rattle.rules.specs.Refusals.{State, Lengths, creditTest, agentTest, userTest, pointTest, lineTests}
-use Rattle.rules.proofs.Tests.{then-accepted, when-accepted, when-then, each-from-1}
-use Rattle.rules.proofs.Fits.{Amount, Possible, AgentFits, agent-fits, UserFits, user-fits, PointFits, point-passed}
-use Rattle.rules.proofs.Passed.{Passed}
+use Rattle.rules.specs.Refusals.{State, Lengths, creditTest, lineTests}
+use Rattle.rules.proofs.Tests.{when-accepted, each-from-1}
+use Rattle.rules.proofs.Fits.{Amount, Possible, AgentFits, UserFits, PointFits}
+use Rattle.rules.proofs.Passed.{Passed, lines-passed}
 
 pub record Ranged (credits : List ℤ) (l : Lines) : Type 0 where
   pub few-users : length (l .users) ≤ 512
@@ -38,11 +38,8 @@ pub ranged :
     → eachLine creditTest 1 credits ≡ accepted
     → lineTests l ≡ accepted
     → Ranged credits l
-unfolding lineTests
 ranged credits l us gs ps m w d e =
-    let a = when-then _ 5 0 _ e in
-    let b = then-accepted (eachLine agentTest 1 (l .agents)) _ (a .1) in
-    let c = then-accepted (eachLine userTest 1 (l .users)) _ (b .1) in
+    let lines = lines-passed l e in
     record {
       few-users = us;
       few-agents = gs;
@@ -50,10 +47,10 @@ ranged credits l us gs ps m w d e =
       month = m;
       count = w;
       held = λ j h. outside-false _ _ _ (when-accepted _ 4 (suc j) (each-from-1 creditTest credits (pos 0) d j h));
-      ons = outside-false _ _ _ (a .0);
-      agent = λ i h. agent-fits _ _ (when-accepted _ 5 (suc i) (each-from-1 agentTest (l .agents) (agentOf []) (b .0) i h));
-      user = λ j h. user-fits _ _ (when-accepted _ 5 (suc j) (each-from-1 userTest (l .users) (userOf []) (c .0) j h));
-      point = λ k h. point-passed (l .users) (suc k) _ (each-from-1 (pointTest (l .users)) (l .points) (pointOf []) (c .1) k h) .values;
+      ons = lines .ons;
+      agent = lines .agent;
+      user = lines .user;
+      point = λ m h. lines .point m h .values;
     }
 
 -- a month that breaks no limit

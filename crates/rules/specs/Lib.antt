@@ -10,4 +10,3 @@ pub mod Refusals
 pub mod Calls
 pub mod Tally
 pub mod Demand
-pub mod Tests

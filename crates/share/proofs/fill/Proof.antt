@@ -91,7 +91,7 @@ module _ {P W : ℤ} {ws old : List ℤ} (f : Fillable P W ws old) where
         here = omega arith;
         sum = next;
         floor-is = e;
-        done = ap (λ (x : List ℤ). set x i (q -ℤ lower)) (t .done) ∙ filled-more (runningShare P ws) old same i (pos 0) (q -ℤ lower) (omega (arith, f .long)) value;
+        done = filled-more (runningShare P ws) old same i (pos 0) (q -ℤ lower) (t .done) (omega (arith, f .long)) value;
       }
 
 abbrev Inv-loop : tie.InvT-loop

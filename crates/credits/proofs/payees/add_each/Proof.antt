@@ -55,7 +55,7 @@ module _ (c : tie.After-out2 Inv-loop μ-loop) where
   inside = omega (arith, s .pre .2)
 
   was : getD (c .before .before .before .loop .out) i (pos 0) ≡ getD (s .args .out .now) i (pos 0)
-  was = filling-next (same s) (c .before .before .before .loop .inv) (pos 0)
+  was = filling-next (same s) (c .before .before .before .loop .inv) (pos 0) inside
 
   entry-fits : SFits w64 (getD (s .args .out .now) i (pos 0))
   entry-fits = omega (za, s .pre .1 .small i inside)

@@ -10,7 +10,7 @@ use lib.ListN.{length}
 use Rattle.rules.specs.Verdict.{Verdict, when}
 use Rattle.rules.specs.Lines.{agentOf}
 use Rattle.rules.specs.Refusals.{agentTest}
-use Rattle.rules.specs.Tests.{Passed, each-map, none-passed, line-refused, line-passed, all-passed}
+use Rattle.rules.proofs.Turns.{Past, each-map, none-past, line-refused, line-past, all-past}
 use Rattle.limits.proofs.lines.agents_verdict.Statement.{statement}
 use Rattle.limits.proofs.lines.agents_verdict.Tie as tie
 
@@ -19,13 +19,13 @@ abbrev test : ℕ → List ℤ → Verdict
 test k l = agentTest k (agentOf l)
 
 abbrev Inv-loop : tie.InvT-loop
-Inv-loop agents i₀ i = (i ≤ length agents) × Passed test agents i
+Inv-loop agents i₀ i = (i ≤ length agents) × Past test agents i
 
 abbrev μ-loop : tie.MeasureT-loop
 μ-loop agents i₀ i = length agents - i
 
 loop-holds : tie.Need-loop-holds Inv-loop μ-loop
-loop-holds c = (omega arith, none-passed test _)
+loop-holds c = (omega arith, none-past test _)
 
 add-bad-agent : tie.Need-add-bad-agent Inv-loop μ-loop
 add-bad-agent c = search needs
@@ -58,10 +58,10 @@ loop-less c = search needs
 loop-again : tie.Need-loop-again Inv-loop μ-loop
 loop-again c =
     let b = c .before .before .before .before in
-    (omega arith, line-passed test _ _ (omega arith) (b .loop .inv .1) (ap (λ (t : Bool). when t 5 (b .loop .i + 1)) (sym (c .before .bad-agent .ensures) ∙ c .if1 .left)))
+    (omega arith, line-past test _ _ (omega arith) (b .loop .inv .1) (ap (λ (t : Bool). when t 5 (b .loop .i + 1)) (sym (c .before .bad-agent .ensures) ∙ c .if1 .left)))
 
 returns-2 : tie.Need-returns-2 Inv-loop μ-loop
-returns-2 c = sym (each-map agentTest agentOf 1 _ ∙ all-passed test _ (c .loop-test .left) (c .before .loop .inv .1))
+returns-2 c = sym (each-map agentTest agentOf 1 _ ∙ all-past test _ (c .loop-test .left) (c .before .loop .inv .1))
 
 pub agents-verdict-spec : {M : Type 1} → statement M
 agents-verdict-spec =

@@ -12,12 +12,12 @@ use mir.Facts.{toZ-ofZ}
 use Rattle.ints.specs.Range.{outside}
 use Rattle.rules.specs.Verdict.{when}
 use Rattle.rules.specs.Refusals.{creditTest}
-use Rattle.rules.specs.Tests.{Passed, none-passed, line-refused, line-passed, all-passed}
+use Rattle.rules.proofs.Turns.{Past, none-past, line-refused, line-past, all-past}
 use Rattle.limits.proofs.lines.credits_verdict.Statement.{statement}
 use Rattle.limits.proofs.lines.credits_verdict.Tie as tie
 
 abbrev Inv-loop : tie.InvT-loop
-Inv-loop credits i₀ i = (i ≤ length credits) × Passed creditTest credits i
+Inv-loop credits i₀ i = (i ≤ length credits) × Past creditTest credits i
 
 abbrev μ-loop : tie.MeasureT-loop
 μ-loop credits i₀ i = length credits - i
@@ -30,7 +30,7 @@ tested c =
     simp (toZ-ofZ, f) at (c .outside .ensures)
 
 loop-holds : tie.Need-loop-holds Inv-loop μ-loop
-loop-holds c = (omega arith, none-passed creditTest _)
+loop-holds c = (omega arith, none-past creditTest _)
 
 mul-outside : tie.Need-mul-outside Inv-loop μ-loop
 mul-outside c = search needs
@@ -58,10 +58,10 @@ loop-less c = search needs
 loop-again : tie.Need-loop-again Inv-loop μ-loop
 loop-again c =
     let b = c .before .before .before .before in
-    (omega arith, line-passed creditTest _ (pos 0) (omega arith) (b .loop .inv .1) (ap (λ (t : Bool). when t 4 (b .loop .i + 1)) (sym (tested (c .before)) ∙ c .if1 .left)))
+    (omega arith, line-past creditTest _ (pos 0) (omega arith) (b .loop .inv .1) (ap (λ (t : Bool). when t 4 (b .loop .i + 1)) (sym (tested (c .before)) ∙ c .if1 .left)))
 
 returns-2 : tie.Need-returns-2 Inv-loop μ-loop
-returns-2 c = sym (all-passed creditTest _ (c .loop-test .left) (c .before .loop .inv .1))
+returns-2 c = sym (all-past creditTest _ (c .loop-test .left) (c .before .loop .inv .1))
 
 pub credits-verdict-spec : {M : Type 1} → statement M
 credits-verdict-spec =

@@ -10,7 +10,7 @@ use lib.ListN.{length}
 use Rattle.rules.specs.Verdict.{Verdict, when}
 use Rattle.rules.specs.Lines.{userOf}
 use Rattle.rules.specs.Refusals.{userTest}
-use Rattle.rules.specs.Tests.{Passed, each-map, none-passed, line-refused, line-passed, all-passed}
+use Rattle.rules.proofs.Turns.{Past, each-map, none-past, line-refused, line-past, all-past}
 use Rattle.limits.proofs.lines.users_verdict.Statement.{statement}
 use Rattle.limits.proofs.lines.users_verdict.Tie as tie
 
@@ -19,13 +19,13 @@ abbrev test : ℕ → List ℤ → Verdict
 test k l = userTest k (userOf l)
 
 abbrev Inv-loop : tie.InvT-loop
-Inv-loop users i₀ i = (i ≤ length users) × Passed test users i
+Inv-loop users i₀ i = (i ≤ length users) × Past test users i
 
 abbrev μ-loop : tie.MeasureT-loop
 μ-loop users i₀ i = length users - i
 
 loop-holds : tie.Need-loop-holds Inv-loop μ-loop
-loop-holds c = (omega arith, none-passed test _)
+loop-holds c = (omega arith, none-past test _)
 
 add-bad-user : tie.Need-add-bad-user Inv-loop μ-loop
 add-bad-user c = search needs
@@ -58,10 +58,10 @@ loop-less c = search needs
 loop-again : tie.Need-loop-again Inv-loop μ-loop
 loop-again c =
     let b = c .before .before .before .before in
-    (omega arith, line-passed test _ _ (omega arith) (b .loop .inv .1) (ap (λ (t : Bool). when t 5 (b .loop .i + 1)) (sym (c .before .bad-user .ensures) ∙ c .if1 .left)))
+    (omega arith, line-past test _ _ (omega arith) (b .loop .inv .1) (ap (λ (t : Bool). when t 5 (b .loop .i + 1)) (sym (c .before .bad-user .ensures) ∙ c .if1 .left)))
 
 returns-2 : tie.Need-returns-2 Inv-loop μ-loop
-returns-2 c = sym (each-map userTest userOf 1 _ ∙ all-passed test _ (c .loop-test .left) (c .before .loop .inv .1))
+returns-2 c = sym (each-map userTest userOf 1 _ ∙ all-past test _ (c .loop-test .left) (c .before .loop .inv .1))
 
 pub users-verdict-spec : {M : Type 1} → statement M
 users-verdict-spec =

@@ -1,6 +1,5 @@
 -- The totals of a month that breaks no limit: compensation totals the variable parcels, and credits total debits, of which there are some.
-use Prim.Native.Nat.{ℕ}
-use mathlib.Core.Path.{_≡_, sym, ap, _∙_}
+use mathlib.Core.Path.{_≡_, ap, _∙_}
 use mathlib.Core.Logic.{⊎-elim}
 use mathlib.Core.List.{List}
 use lib.ListN.{length}
