@@ -25,6 +25,17 @@ pub outside-false : (low high x : ℤ) → outside low high x ≡ false → With
 unfolding outside
 outside-false low high x e = let f = or-false (ltZ x low) (ltZ high x) e in record { above = omega za; below = omega za }
 
+pub outside-within : (low high x : ℤ) → low ≤ℤ x → x ≤ℤ high → outside low high x ≡ false
+unfolding outside
+outside-within low high x h k = rw (not-less x low h, not-less high x k)
+  where
+    not-less : (a b : ℤ) → b ≤ℤ a → ltZ a b ≡ false
+    not-less a b l = go (ltZ a b) refl
+      where
+        go : (t : Bool) → ltZ a b ≡ t → t ≡ false
+        go true e = absurd (omega za)
+        go false e = refl
+
 -- a equals b
 abbrev pub eqZ : ℤ → ℤ → Bool
 eqZ (pos a) (pos b) = eqb a b

@@ -1,4 +1,5 @@
--- `Running` is the running share of paper 01, `Answer` what the exported share answers, `Laws` what holds of every running share.
+-- `Running` is the running share of paper 01, `Answer` what the exported share answers, `Exact` one share's floor and rest, `Laws` what holds of every running share.
 pub mod Running
 pub mod Answer
+pub mod Exact
 pub mod Laws

@@ -4,8 +4,10 @@ ghost use Prim.Native.Nat.{_*_, _≤_, _<_};
 ghost use lib.IntN.{pos, _*ℤ_};
 ghost use Rattle.ints.specs.Bridge.{abs};
 ghost use Rattle.ints.specs.Floor.{floor};
+ghost use Rattle.ints.specs.Rest.{Split};
 ghost use Rattle.wide.specs.Exact.{divided};
 ghost use Rattle.share.specs.Answer.{shared, badSums, seenByC};
+ghost use Rattle.share.specs.Exact.{beyond, floored};
 use wide::Divided;
 use wide::Ratio;
 
@@ -33,21 +35,66 @@ fn scaled(a: u64, t: u64, w: u64) -> Divided
     }
 }
 
-// p × t over w rounded down. What is below 0 goes by its size, and a remainder takes it one further down.
-fn floor_of(p: i64, t: u64, w: u64) -> i64
+// p × t over w: the quotient rounded down, and what is left over.
+pub struct Floored {
+    pub quot: i64,
+    pub rem: u64,
+}
+
+// p × t over w. What is below 0 goes by its size, and a remainder takes it one further down.
+fn split(p: i64, t: u64, w: u64) -> Floored
     requires { ⌜ (abs p ≤ 100000000000000000) × (t ≤ w) × (0 < w) ⌝ }
-    ensures { λ r. ⌜ r ≡ floor (p *ℤ pos t) (pos w) ⌝ }
+    ensures { λ r. ⌜ Split (p *ℤ pos t) w (r .quot) (r .rem) ⌝ }
 {
     if p < 0 {
         let d = scaled((-p) as u64, t, w);
         let q = d.quot as i64;
-        if d.rem == 0 {
-            return -q;
+        let m = d.rem;
+        if m == 0 {
+            return Floored { quot: -q, rem: 0 };
         }
-        return -q - 1;
+        return Floored {
+            quot: -q - 1,
+            rem: w - m,
+        };
     }
     let d = scaled(p as u64, t, w);
-    d.quot as i64
+    Floored {
+        quot: d.quot as i64,
+        rem: d.rem,
+    }
+}
+
+// Whether p, t and w break the limits of `floor_with_rest`.
+fn beyond(p: i64, t: u64, w: u64) -> bool
+    ensures { λ r. ⌜ r ≡ beyond p t w ⌝ }
+{
+    if ints::outside(-LIMIT, LIMIT, p) {
+        return true;
+    }
+    if w < t {
+        return true;
+    }
+    w == 0
+}
+
+// p × t over w rounded down, and what is left over; zeros where p is out of its limit, t above w or w 0.
+pub fn floor_with_rest(p: i64, t: u64, w: u64) -> Floored
+    ensures { λ r. ⌜ r ≡ floored p t w ⌝ }
+{
+    if beyond(p, t, w) {
+        return Floored { quot: 0, rem: 0 };
+    }
+    split(p, t, w)
+}
+
+// p × t over w rounded down.
+fn floor_of(p: i64, t: u64, w: u64) -> i64
+    requires { ⌜ (abs p ≤ 100000000000000000) × (t ≤ w) × (0 < w) ⌝ }
+    ensures { λ r. ⌜ r ≡ floor (p *ℤ pos t) (pos w) ⌝ }
+{
+    let f = split(p, t, w);
+    f.quot
 }
 
 // Whether the sums break 0 <= before <= through <= w.

@@ -1,0 +1,150 @@
+use mathlib.Core.Path.{_≡_, refl, sym, ap, ap₂, _∙_}
+use mathlib.Core.List.{List}
+use Prim.Native.Nat.{ℕ, _+_, _*_, _≤_, _<_, _-_}
+use native.Mathlib.Omega.{arith}
+use borrow.Author.Needs.{needs}
+use lib.ListN.{length, getD, set, replicate, length-set, length-replicate, getD-replicate}
+use Rattle.ints.specs.NatSums.{total, total-set}
+use Rattle.cells.specs.Place.{Going, going-start, going-past, going-on, going-end}
+use Rattle.cells.proofs.search.place.Statement.{statement}
+use Rattle.cells.proofs.search.place.Tie as tie
+use Rattle.cells.proofs.search.place.Reads as reads
+use Rattle.cells.proofs.search.place.Lts as lts
+use Rattle.cells.proofs.search.reopen.Reads as reopen-reads
+use Rattle.cells.proofs.search.visit_row.Reads as visit-row-reads
+
+abbrev Inv-loop : tie.InvT-loop
+Inv-loop marks₀ wr₀ wc₀ ro₀ co₀ m n i₀ marks wr wc ro co i = Going m n marks₀ wr₀ wc₀ marks wr wc ro co i
+
+abbrev μ-loop : tie.MeasureT-loop
+μ-loop marks₀ wr₀ wc₀ ro₀ co₀ m n i₀ marks wr wc ro co i = m - i + total wr
+
+-- src/search.rt:102:5
+loop-holds : tie.Need-loop-holds Inv-loop μ-loop
+loop-holds c = let s = c .before .before .before .before .before .args in going-start (s .marks .now) (s .lacks .now) (s .wants .now) (s .rows .now) (s .columns .now)
+
+-- src/search.rt:103:12
+mul-if1 : tie.Need-mul-if1 Inv-loop μ-loop
+mul-if1 c = omega arith
+
+-- src/search.rt:103:12
+slice-read-if1 : tie.Need-slice-read-if1 Inv-loop μ-loop
+slice-read-if1 c = omega (arith, c .before .before .loop .inv .wants, c .before .before .before .before .before .before .before .before .pre .tall)
+
+-- src/search.rt:104:13
+reopen-requires : tie.Need-reopen-requires Inv-loop μ-loop
+reopen-requires c κs = search needs
+
+-- src/search.rt:105:13
+reopen-requires-2 : tie.Need-reopen-requires-2 Inv-loop μ-loop
+reopen-requires-2 c κs = search needs
+
+-- src/search.rt:106:13
+visit-row-requires : tie.Need-visit-row-requires Inv-loop μ-loop
+visit-row-requires c κs =
+    let l = c .before .before .before .before .before .before .before .before .before .before .before .before .before .before in
+    let g = l .before .loop .inv in
+    let p = l .before .before .before .before .before .before .before .pre in
+    let r = c .before .before .before .before .before .before .before .before .before .before .reopen in
+    let o = c .before .before .before .before .before .before .reopen2 in (
+      record {
+        cells = g .cells ∙ p .shape .cells ∙ sym (ap₂ _*_ (r .kept .0 ∙ g .tall) (o .kept .0 ∙ g .long));
+        wide = g .wide ∙ p .shape .wide ∙ sym (o .kept .0 ∙ g .long);
+      },
+      omega (arith, r .kept .0 ∙ g .tall),
+      rw (r .ensures) (omega (arith, getD-replicate {A = ℕ} (length (l .before .loop .rows)) (l .before .loop .i) 1 0 (omega (arith, g .tall)))),
+    )
+
+-- src/search.rt:107:13
+mul-lacks : tie.Need-mul-lacks Inv-loop μ-loop
+mul-lacks c = omega (arith, c .before .before .before .before .before .before .before .before .before .before .before .before .before .before .before .before .before .before .before .before .before .before .before, c .before .before .before .before .before .before .before .before .before .before .before .before .before .before .before .before .before .before .before .before .before .before .before .before .before .before .before .before .before .before .good)
+
+-- src/search.rt:107:13
+slice-read-lacks : tie.Need-slice-read-lacks Inv-loop μ-loop
+slice-read-lacks c = omega (arith, c .before .before .before .before .before .before .before .before .before .before .before .before .before .before .before .before .before .before .before .before .before .before .before .before .loop-test .taken, c .before .before .before .before .before .before .before .before .before .before .before .before .before .before .before .before .before .before .before .before .before .before .before .before .before .loop .inv .wants, c .before .before .before .before .before .before .before .before .before .before .before .before .before .before .before .before .before .before .before .before .before .before .before .before .before .before .before .before .before .before .before .pre .tall)
+
+-- src/search.rt:107:13
+sub-lacks : tie.Need-sub-lacks Inv-loop μ-loop
+sub-lacks c = c .before .before .before .before .before .before .before .before .before .before .before .before .before .before .before .before .before .before .before .before .before .before .if1 .taken
+
+-- src/search.rt:107:13
+slice-write-lacks : tie.Need-slice-write-lacks Inv-loop μ-loop
+slice-write-lacks c = omega (arith, c .before .before .before .before .before .before .before .before .before .before .before .before .before .before .before .before .before .before .before .before .before .before .before .before .loop-test .taken, c .before .before .before .before .before .before .before .before .before .before .before .before .before .before .before .before .before .before .before .before .before .before .before .before .before .loop .inv .wants, c .before .before .before .before .before .before .before .before .before .before .before .before .before .before .before .before .before .before .before .before .before .before .before .before .before .before .before .before .before .before .before .pre .tall)
+
+-- src/search.rt:102:5
+loop-less : tie.Need-loop-less Inv-loop μ-loop
+loop-less c = let l = c .before .before .before .before .before .before .before .before .before .before .before .before .before .before .before .before .before .before .before .before .before .before .before .before .before .loop in omega (arith, c .before .before .before .before .before .before .before .before .before .before .before .before .before .before .before .before .before .before .before .before .before .before .if1 .taken, total-set (l .lacks) (l .i) (getD (l .lacks) (l .i) 0 - 1) (omega (arith, c .before .before .before .before .before .before .before .before .before .before .before .before .before .before .before .before .before .before .before .before .before .before .before .before .loop-test .taken, c .before .before .before .before .before .before .before .before .before .before .before .before .before .before .before .before .before .before .before .before .before .before .before .before .before .loop .inv .wants, c .before .before .before .before .before .before .before .before .before .before .before .before .before .before .before .before .before .before .before .before .before .before .before .before .before .before .before .before .before .before .before .pre .tall)))
+
+-- src/search.rt:102:5
+loop-again : tie.Need-loop-again Inv-loop μ-loop
+loop-again c =
+    let l = c .before .before .before .before .before .before .before .before .before .before .before .before .before .before .before .before .before .before .before .before .before .before .before .before in
+    let p = l .before .before .before .before .before .before .before .pre in
+    let v = c .before .before .before .before .before .before .before .before .before .visit-row in
+    let r = c .before .before .before .before .before .before .before .before .before .before .before .before .before .before .before .before .before .before .before .before .reopen in
+    let o = c .before .before .before .before .before .before .before .before .before .before .before .before .before .before .before .before .reopen2 in
+    going-on (l .before .loop .inv) (p .feasible) (p .small) (l .loop-test .taken) (omega (arith, c .before .before .before .before .before .before .before .before .before .before .before .before .before .before .before .before .before .before .before .before .before .before .before .before .loop-test .taken, c .before .before .before .before .before .before .before .before .before .before .before .before .before .before .before .before .before .before .before .before .before .before .before .before .before .loop .inv .wants, c .before .before .before .before .before .before .before .before .before .before .before .before .before .before .before .before .before .before .before .before .before .before .before .before .before .before .before .before .before .before .before .pre .tall)) (c .before .before .before .before .before .before .before .before .before .before .before .before .before .before .before .before .before .before .before .before .before .before .if1 .taken) (r .kept .0) (o .kept .0) (r .ensures) (o .ensures) (v .result) (v .ensures) (v .kept .0) (v .kept .1 .0) (v .kept .1 .1 .0) (v .kept .1 .1 .1 .0)
+
+-- src/search.rt:109:13
+add-i : tie.Need-add-i Inv-loop μ-loop
+add-i c = omega arith
+
+-- src/search.rt:102:5
+loop-less-2 : tie.Need-loop-less-2 Inv-loop μ-loop
+loop-less-2 c = omega arith
+
+-- src/search.rt:102:5
+loop-again-2 : tie.Need-loop-again-2 Inv-loop μ-loop
+loop-again-2 c = going-past (c .before .before .before .loop .inv) (c .before .before .loop-test .taken) (omega arith)
+
+-- src/search.rt:95:1
+same-length : tie.Need-same-length Inv-loop μ-loop
+same-length c = c .before .loop .inv .cells
+
+-- src/search.rt:95:1
+same-length-2 : tie.Need-same-length-2 Inv-loop μ-loop
+same-length-2 c = c .before .loop .inv .wants
+
+-- src/search.rt:95:1
+same-length-3 : tie.Need-same-length-3 Inv-loop μ-loop
+same-length-3 c = c .before .loop .inv .wide
+
+-- src/search.rt:95:1
+same-length-4 : tie.Need-same-length-4 Inv-loop μ-loop
+same-length-4 c = c .before .loop .inv .tall
+
+-- src/search.rt:95:1
+same-length-5 : tie.Need-same-length-5 Inv-loop μ-loop
+same-length-5 c = c .before .loop .inv .long
+
+-- src/search.rt:95:1
+returns : tie.Need-returns Inv-loop μ-loop
+returns c = going-end (c .before .loop .inv) (c .before .before .before .before .before .before .before .pre .feasible) (c .loop-test .left)
+
+pub place-spec : {M : Type 1} → statement M
+place-spec =
+    tie.close
+    (tie.spec
+    Inv-loop
+    μ-loop
+    loop-holds
+    mul-if1
+    slice-read-if1
+    reopen-requires
+    reopen-requires-2
+    visit-row-requires
+    mul-lacks
+    slice-read-lacks
+    sub-lacks
+    slice-write-lacks
+    loop-less
+    loop-again
+    add-i
+    loop-less-2
+    loop-again-2
+    same-length
+    same-length-2
+    same-length-3
+    same-length-4
+    same-length-5
+    returns)

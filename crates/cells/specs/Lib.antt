@@ -1,0 +1,5 @@
+pub mod Cut
+pub mod Marks
+pub mod Visit
+pub mod Turns
+pub mod Place
