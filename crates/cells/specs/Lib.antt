@@ -1,5 +1,12 @@
 pub mod Cut
 pub mod Marks
+pub mod Kept
 pub mod Visit
 pub mod Turns
 pub mod Place
+pub mod Fill
+pub mod Naturals
+pub mod Rows
+pub mod Exact
+pub mod Floors
+pub mod Finish

@@ -10,16 +10,11 @@ use borrow.Author.Count.{below-none, below-more}
 use lib.ListN.{length, getD, set, length-set, replicate, getD-replicate}
 use lib.Seq.{getD-set-same, getD-set-other}
 use Rattle.ints.specs.NatSums.{Σ, Σ-ext, Σ-mono, Σ-add, Σ-scale, Σ-swap, Σ-same, total, total-set}
-use Rattle.cells.specs.Cut.{Witness, Closed, cut}
-use Rattle.cells.specs.Marks.{at, row, col, one, one-same, one-other, Kind, kind-same, kind-then, below}
+use Rattle.cells.specs.Cut.{Closed, cut}
+use Rattle.cells.specs.Marks.{at, row, col, one, Kind}
+use Rattle.cells.specs.Kept.{Feasible, still, Kept, kept-none, kept-then, less-one}
 use Rattle.cells.specs.Visit.{Shape, Shut, Moved, RowVisited}
 use Rattle.cells.specs.Turns.{true-false}
-
--- some y between 0 and cap, 0 on whole cells, whose rows total cap times the marks that the row has and wants, and so the columns
-pub record Feasible (m n : ℕ) (xs wr wc : List ℕ) : Type 0 where
-  pub cap : ℕ
-  pub y : ℕ → ℕ → ℕ
-  pub witness : Witness m n cap (λ i j. at n xs i j) y (λ i. row n xs i + getD wr i 0) (λ j. col m n xs j + getD wc j 0)
 
 -- what the driver is given, and what it leaves
 pub record Wanted (xs wr wc ro co : List ℕ) : Type 0 where
@@ -65,65 +60,37 @@ rest {m} {n} {xs} {wr} {wc} F z x hx =
 -- ---- the loop
 pub record Going (m n : ℕ) (xs wr wc xs′ wr′ wc′ ro′ co′ : List ℕ) (i : ℕ) : Type 0 where
   pub here : i ≤ m
-  pub rows : (b : ℕ) → b < m → row n xs′ b + getD wr′ b 0 ≡ row n xs b + getD wr b 0
-  pub cols : (x : ℕ) → x < n → col m n xs′ x + getD wc′ x 0 ≡ col m n xs x + getD wc x 0
-  pub kind : Kind xs xs′
+  pub kept : Kept m n xs wr wc xs′ wr′ wc′
   pub done : (b : ℕ) → b < i → getD wr′ b 0 ≡ 0
-  pub cells : length xs′ ≡ length xs
-  pub wide : length wc′ ≡ length wc
-  pub wants : length wr′ ≡ length wr
   pub tall : length ro′ ≡ m
   pub long : length co′ ≡ n
 
 pub going-start : (xs wr wc ro co : List ℕ) → Going (length ro) (length co) xs wr wc xs wr wc ro co 0
 going-start xs wr wc ro co = record {
   here = omega arith;
-  rows = λ b h. refl;
-  cols = λ x h. refl;
-  kind = kind-same xs;
+  kept = kept-none xs wr wc;
   done = below-none _;
-  cells = refl;
-  wide = refl;
-  wants = refl;
   tall = refl;
   long = refl;
-}
-
-still : {m n : ℕ} {xs wr wc xs′ wr′ wc′ ro′ co′ : List ℕ} {i : ℕ} → Going m n xs wr wc xs′ wr′ wc′ ro′ co′ i → Feasible m n xs wr wc → Feasible m n xs′ wr′ wc′
-still {m} {n} {xs} {wr} {wc} {xs′} {wr′} {wc′} g F = record {
-  cap = F .cap;
-  y = F .y;
-  witness = record {
-    some = F .witness .some;
-    most = F .witness .most;
-    whole = λ i j h k e. F .witness .whole i j h k (omega (arith, g .kind .whole (i * n + j)));
-    rows = λ i h. F .witness .rows i h ∙ ap (λ (t : ℕ). F .cap * t) (sym (g .rows i h));
-    cols = λ j h. F .witness .cols j h ∙ ap (λ (t : ℕ). F .cap * t) (sym (g .cols j h));
-  };
 }
 
 module _ {m n : ℕ} {xs wr wc xs′ wr′ wc′ ro′ co′ : List ℕ} {i : ℕ} (g : Going m n xs wr wc xs′ wr′ wc′ ro′ co′ i) where
   pub going-past : i < m → getD wr′ i 0 ≡ 0 → Going m n xs wr wc xs′ wr′ wc′ ro′ co′ (i + 1)
   going-past h e = record {
     here = omega arith;
-    rows = g .rows;
-    cols = g .cols;
-    kind = g .kind;
+    kept = g .kept;
     done = below-more _ _ (g .done) e;
-    cells = g .cells;
-    wide = g .wide;
-    wants = g .wants;
     tall = g .tall;
     long = g .long;
   }
 
   pub going-end : Feasible m n xs wr wc → m ≤ i → Placed m n xs wr wc xs′
   going-end F h =
-      let z = rest (still g F) (λ b l. g .done b (omega arith)) in
+      let z = rest (still (g .kept) F) (λ b l. g .done b (omega arith)) in
       record {
-        rows = λ b l. omega (arith, g .rows b l, g .done b (omega arith));
-        cols = λ x l. omega (arith, g .cols x l, z x l);
-        kind = g .kind;
+        rows = λ b l. omega (arith, g .kept .rows b l, g .done b (omega arith));
+        cols = λ x l. omega (arith, g .kept .cols x l, z x l);
+        kind = g .kept .kind;
       }
 
   -- the visit of row i, from open rows and columns, found a mark
@@ -140,24 +107,20 @@ module _ {m n : ℕ} {xs wr wc xs′ wr′ wc′ ro′ co′ : List ℕ} {i : �
       found true v = v .found refl
       found false v =
           let o = v .none refl in
-          absurd (never (still g F) (λ p. g .kind .small p (small p)) open-row open-col (o .2) i hi (o .3) w)
-
-      less : (b : ℕ) → Dec (b ≡ i) → getD (set wr′ i (getD wr′ i 0 - 1)) b 0 + one b i ≡ getD wr′ b 0
-      less b (yes q) =
-          let u : getD (set wr′ i (getD wr′ i 0 - 1)) b 0 ≡ getD wr′ i 0 - 1 = rw q (getD-set-same wr′ i (getD wr′ i 0 - 1) 0 hw) in
-          let v : getD wr′ b 0 ≡ getD wr′ i 0 = ap (λ (k : ℕ). getD wr′ k 0) q in omega (arith, one-same b i q)
-      less b (no f) = rw (getD-set-other wr′ i b (getD wr′ i 0 - 1) 0 f) (omega (arith, one-other b i f))
+          absurd (never (still (g .kept) F) (λ p. g .kept .kind .small p (small p)) open-row open-col (o .2) i hi (o .3) w)
 
       with-found : Moved m n xs′ wc′ ro co ys wd (λ b. one b i) (λ x. 0) → Going m n xs wr wc ys (set wr′ i (getD wr′ i 0 - 1)) wd ro″ co″ i
       with-found v = record {
         here = g .here;
-        rows = λ b h. omega (arith, g .rows b h, v .rows b h, less b (ℕ-discrete b i));
-        cols = λ x h. omega (arith, g .cols x h, v .cols x h);
-        kind = kind-then (g .kind) (v .kind);
+        kept = kept-then (g .kept) (record {
+          rows = λ b h. omega (arith, v .rows b h, less-one wr′ i b hw w);
+          cols = λ x h. omega (arith, v .cols x h);
+          kind = v .kind;
+          cells = ly;
+          tall = length-set wr′ i (getD wr′ i 0 - 1);
+          wide = lw;
+        });
         done = λ b h. rw (getD-set-other wr′ i b (getD wr′ i 0 - 1) 0 (λ q. absurd (omega arith))) (g .done b h);
-        cells = ly ∙ g .cells;
-        wide = lw ∙ g .wide;
-        wants = length-set wr′ i (getD wr′ i 0 - 1) ∙ g .wants;
         tall = lr ∙ kr ∙ g .tall;
         long = lc ∙ kc ∙ g .long;
       }

@@ -7,6 +7,6 @@ pub mod Range
 pub mod Ring
 pub mod Floor
 pub mod Rest
-pub mod Sums
 pub mod NatSums
+pub mod Sums
 pub mod Words

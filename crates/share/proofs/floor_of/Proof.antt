@@ -14,7 +14,7 @@ returns : tie.Need-returns
 returns c =
     let s = c .before .before in
     let g : SFits w64 (c .before .split .result .quot) = search needs in
-    simp (toZ-ofZ, g, s .fits .p) (quot-is (simp (toZ-ofZ, s .fits .p) at (c .before .split .ensures)))
+    simp (toZ-ofZ, g) (quot-is (simp (toZ-ofZ, s .fits .p) at (c .before .split .ensures)))
 
 pub floor-of-spec : {M : Type 1} → statement M
 floor-of-spec = tie.close (tie.spec split-requires returns)

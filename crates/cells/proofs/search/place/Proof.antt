@@ -29,7 +29,7 @@ mul-if1 c = omega arith
 
 -- src/search.rt:103:12
 slice-read-if1 : tie.Need-slice-read-if1 Inv-loop μ-loop
-slice-read-if1 c = omega (arith, c .before .before .loop .inv .wants, c .before .before .before .before .before .before .before .before .pre .tall)
+slice-read-if1 c = omega (arith, c .before .before .loop .inv .kept .tall, c .before .before .before .before .before .before .before .before .pre .tall)
 
 -- src/search.rt:104:13
 reopen-requires : tie.Need-reopen-requires Inv-loop μ-loop
@@ -48,8 +48,8 @@ visit-row-requires c κs =
     let r = c .before .before .before .before .before .before .before .before .before .before .reopen in
     let o = c .before .before .before .before .before .before .reopen2 in (
       record {
-        cells = g .cells ∙ p .shape .cells ∙ sym (ap₂ _*_ (r .kept .0 ∙ g .tall) (o .kept .0 ∙ g .long));
-        wide = g .wide ∙ p .shape .wide ∙ sym (o .kept .0 ∙ g .long);
+        cells = g .kept .cells ∙ p .shape .cells ∙ sym (ap₂ _*_ (r .kept .0 ∙ g .tall) (o .kept .0 ∙ g .long));
+        wide = g .kept .wide ∙ p .shape .wide ∙ sym (o .kept .0 ∙ g .long);
       },
       omega (arith, r .kept .0 ∙ g .tall),
       rw (r .ensures) (omega (arith, getD-replicate {A = ℕ} (length (l .before .loop .rows)) (l .before .loop .i) 1 0 (omega (arith, g .tall)))),
@@ -61,7 +61,7 @@ mul-lacks c = omega (arith, c .before .before .before .before .before .before .b
 
 -- src/search.rt:107:13
 slice-read-lacks : tie.Need-slice-read-lacks Inv-loop μ-loop
-slice-read-lacks c = omega (arith, c .before .before .before .before .before .before .before .before .before .before .before .before .before .before .before .before .before .before .before .before .before .before .before .before .loop-test .taken, c .before .before .before .before .before .before .before .before .before .before .before .before .before .before .before .before .before .before .before .before .before .before .before .before .before .loop .inv .wants, c .before .before .before .before .before .before .before .before .before .before .before .before .before .before .before .before .before .before .before .before .before .before .before .before .before .before .before .before .before .before .before .pre .tall)
+slice-read-lacks c = omega (arith, c .before .before .before .before .before .before .before .before .before .before .before .before .before .before .before .before .before .before .before .before .before .before .before .before .loop-test .taken, c .before .before .before .before .before .before .before .before .before .before .before .before .before .before .before .before .before .before .before .before .before .before .before .before .before .loop .inv .kept .tall, c .before .before .before .before .before .before .before .before .before .before .before .before .before .before .before .before .before .before .before .before .before .before .before .before .before .before .before .before .before .before .before .pre .tall)
 
 -- src/search.rt:107:13
 sub-lacks : tie.Need-sub-lacks Inv-loop μ-loop
@@ -69,11 +69,11 @@ sub-lacks c = c .before .before .before .before .before .before .before .before 
 
 -- src/search.rt:107:13
 slice-write-lacks : tie.Need-slice-write-lacks Inv-loop μ-loop
-slice-write-lacks c = omega (arith, c .before .before .before .before .before .before .before .before .before .before .before .before .before .before .before .before .before .before .before .before .before .before .before .before .loop-test .taken, c .before .before .before .before .before .before .before .before .before .before .before .before .before .before .before .before .before .before .before .before .before .before .before .before .before .loop .inv .wants, c .before .before .before .before .before .before .before .before .before .before .before .before .before .before .before .before .before .before .before .before .before .before .before .before .before .before .before .before .before .before .before .pre .tall)
+slice-write-lacks c = omega (arith, c .before .before .before .before .before .before .before .before .before .before .before .before .before .before .before .before .before .before .before .before .before .before .before .before .loop-test .taken, c .before .before .before .before .before .before .before .before .before .before .before .before .before .before .before .before .before .before .before .before .before .before .before .before .before .loop .inv .kept .tall, c .before .before .before .before .before .before .before .before .before .before .before .before .before .before .before .before .before .before .before .before .before .before .before .before .before .before .before .before .before .before .before .pre .tall)
 
 -- src/search.rt:102:5
 loop-less : tie.Need-loop-less Inv-loop μ-loop
-loop-less c = let l = c .before .before .before .before .before .before .before .before .before .before .before .before .before .before .before .before .before .before .before .before .before .before .before .before .before .loop in omega (arith, c .before .before .before .before .before .before .before .before .before .before .before .before .before .before .before .before .before .before .before .before .before .before .if1 .taken, total-set (l .lacks) (l .i) (getD (l .lacks) (l .i) 0 - 1) (omega (arith, c .before .before .before .before .before .before .before .before .before .before .before .before .before .before .before .before .before .before .before .before .before .before .before .before .loop-test .taken, c .before .before .before .before .before .before .before .before .before .before .before .before .before .before .before .before .before .before .before .before .before .before .before .before .before .loop .inv .wants, c .before .before .before .before .before .before .before .before .before .before .before .before .before .before .before .before .before .before .before .before .before .before .before .before .before .before .before .before .before .before .before .pre .tall)))
+loop-less c = let l = c .before .before .before .before .before .before .before .before .before .before .before .before .before .before .before .before .before .before .before .before .before .before .before .before .before .loop in omega (arith, c .before .before .before .before .before .before .before .before .before .before .before .before .before .before .before .before .before .before .before .before .before .before .if1 .taken, total-set (l .lacks) (l .i) (getD (l .lacks) (l .i) 0 - 1) (omega (arith, c .before .before .before .before .before .before .before .before .before .before .before .before .before .before .before .before .before .before .before .before .before .before .before .before .loop-test .taken, c .before .before .before .before .before .before .before .before .before .before .before .before .before .before .before .before .before .before .before .before .before .before .before .before .before .loop .inv .kept .tall, c .before .before .before .before .before .before .before .before .before .before .before .before .before .before .before .before .before .before .before .before .before .before .before .before .before .before .before .before .before .before .before .pre .tall)))
 
 -- src/search.rt:102:5
 loop-again : tie.Need-loop-again Inv-loop μ-loop
@@ -83,7 +83,7 @@ loop-again c =
     let v = c .before .before .before .before .before .before .before .before .before .visit-row in
     let r = c .before .before .before .before .before .before .before .before .before .before .before .before .before .before .before .before .before .before .before .before .reopen in
     let o = c .before .before .before .before .before .before .before .before .before .before .before .before .before .before .before .before .reopen2 in
-    going-on (l .before .loop .inv) (p .feasible) (p .small) (l .loop-test .taken) (omega (arith, c .before .before .before .before .before .before .before .before .before .before .before .before .before .before .before .before .before .before .before .before .before .before .before .before .loop-test .taken, c .before .before .before .before .before .before .before .before .before .before .before .before .before .before .before .before .before .before .before .before .before .before .before .before .before .loop .inv .wants, c .before .before .before .before .before .before .before .before .before .before .before .before .before .before .before .before .before .before .before .before .before .before .before .before .before .before .before .before .before .before .before .pre .tall)) (c .before .before .before .before .before .before .before .before .before .before .before .before .before .before .before .before .before .before .before .before .before .before .if1 .taken) (r .kept .0) (o .kept .0) (r .ensures) (o .ensures) (v .result) (v .ensures) (v .kept .0) (v .kept .1 .0) (v .kept .1 .1 .0) (v .kept .1 .1 .1 .0)
+    going-on (l .before .loop .inv) (p .feasible) (p .small) (l .loop-test .taken) (omega (arith, c .before .before .before .before .before .before .before .before .before .before .before .before .before .before .before .before .before .before .before .before .before .before .before .before .loop-test .taken, c .before .before .before .before .before .before .before .before .before .before .before .before .before .before .before .before .before .before .before .before .before .before .before .before .before .loop .inv .kept .tall, c .before .before .before .before .before .before .before .before .before .before .before .before .before .before .before .before .before .before .before .before .before .before .before .before .before .before .before .before .before .before .before .pre .tall)) (c .before .before .before .before .before .before .before .before .before .before .before .before .before .before .before .before .before .before .before .before .before .before .if1 .taken) (r .kept .0) (o .kept .0) (r .ensures) (o .ensures) (v .result) (v .ensures) (v .kept .0) (v .kept .1 .0) (v .kept .1 .1 .0) (v .kept .1 .1 .1 .0)
 
 -- src/search.rt:109:13
 add-i : tie.Need-add-i Inv-loop μ-loop
@@ -99,15 +99,15 @@ loop-again-2 c = going-past (c .before .before .before .loop .inv) (c .before .b
 
 -- src/search.rt:95:1
 same-length : tie.Need-same-length Inv-loop μ-loop
-same-length c = c .before .loop .inv .cells
+same-length c = c .before .loop .inv .kept .cells
 
 -- src/search.rt:95:1
 same-length-2 : tie.Need-same-length-2 Inv-loop μ-loop
-same-length-2 c = c .before .loop .inv .wants
+same-length-2 c = c .before .loop .inv .kept .tall
 
 -- src/search.rt:95:1
 same-length-3 : tie.Need-same-length-3 Inv-loop μ-loop
-same-length-3 c = c .before .loop .inv .wide
+same-length-3 c = c .before .loop .inv .kept .wide
 
 -- src/search.rt:95:1
 same-length-4 : tie.Need-same-length-4 Inv-loop μ-loop
