@@ -251,6 +251,8 @@ static Month month(const std::string &shape, Draw &r, std::size_t m, std::size_t
         for (std::size_t j = 0; j < n; j++) t.vd[j] = (i64)j + 1;
     else if (shape == "many zeros")
         for (auto &x : t.vd) x = r() % 2 ? 0 : (i64)(r() % 4);
+    else if (shape == "large amounts")
+        for (auto &x : t.vd) x = (i64)(r() % 150000000000000);
     else
         for (auto &x : t.vd) x = (i64)(r() % 2000000000);
     if (sum_of(t.vd) == 0) t.vd[0] = 1;
@@ -279,7 +281,7 @@ static Month month(const std::string &shape, Draw &r, std::size_t m, std::size_t
 int main(int argc, char **argv) {
     const int runs = argc > 1 ? std::atoi(argv[1]) : 21;
     const std::size_t sizes[][2] = {{17, 64}, {65, 128}, {129, 256}, {257, 512}};
-    const char *shapes[] = {"any", "equal debits", "debits 1 to n", "one large payee", "negative credits", "many zeros"};
+    const char *shapes[] = {"any", "equal debits", "debits 1 to n", "one large payee", "negative credits", "many zeros", "large amounts"};
     std::printf("%-17s %9s %9s %9s %6s %9s %9s %6s %8s %8s\n", "shape", "size", "proved", "C++ (a)", "ratio", "floors", "LEMON (b)", "ratio", "ns/cell", "searched");
     for (const char *shape : shapes)
         for (const auto &size : sizes) {

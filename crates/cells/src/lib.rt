@@ -81,6 +81,6 @@ pub fn fill(vc: &[i64], vd: &[i64], cells: &mut [i64], work: &mut [u64])
         &mut wants[..n],
         &mut rows[..m],
         &mut columns[..n],
-        &mut counts,
+        &mut counts[..m + 1],
     );
 }

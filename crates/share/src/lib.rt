@@ -22,11 +22,18 @@ pub enum Shared {
     BadSums,
 }
 
-// a × t over w: t is at most w, so the quotient is at most a.
+// a × t over w: t is at most w, so the quotient is at most a. A product of one word, as most are, takes one plain division.
 fn scaled(a: u64, t: u64, w: u64) -> Divided
     requires { ⌜ (t ≤ w) × (0 < w) ⌝ }
     ensures { λ r. ⌜ r ≡ divided (a * t) w ⌝ }
 {
+    let n = wide::product::multiply(a, t);
+    if n.high == 0 {
+        return Divided {
+            quot: n.low / w,
+            rem: n.low % w,
+        };
+    }
     let r = wide::quotient::of_product(a, t, w);
     match r {
         Ratio::Exact(d) => d,

@@ -1,6 +1,6 @@
 -- The work slice's first part takes the marks; fresh arrays take what rows and columns need.
 use mathlib.Core.Path.{_≡_, refl, sym, ap, _∙_}
-use Prim.Native.Nat.{ℕ, _≤_, _*_}
+use Prim.Native.Nat.{ℕ, _≤_, _+_, _*_}
 use native.Mathlib.Omega.{arith}
 use lib.ListN.{length, getD, take, length-take}
 use Rattle.cells.specs.Finish.{part-long, part-clear}
@@ -63,13 +63,21 @@ array-borrow-prefix-columns c = search needs
 slice-aggregate-lay-6 : tie.Need-slice-aggregate-lay-6
 slice-aggregate-lay-6 c = let s = c .before .before .before .before .before .before .before .before in sym (part-long 512 (length (s .args .vd .now)) (s .pre .0 .users))
 
+-- src/lib.rt:84:23
+add-counts : tie.Need-add-counts
+add-counts c = search needs
+
+-- src/lib.rt:84:9
+array-borrow-prefix-counts : tie.Need-array-borrow-prefix-counts
+array-borrow-prefix-counts c = search needs
+
 -- src/lib.rt:84:9
 slice-aggregate-lay-7 : tie.Need-slice-aggregate-lay-7
-slice-aggregate-lay-7 c = search needs
+slice-aggregate-lay-7 c = let s = c .before .before .before .before .before .before .before .before .before in sym (part-long 258 (length (s .args .vc .now) + 1) (omega (arith, s .pre .0 .payees)))
 
 -- src/lib.rt:74:5
 lay-requires : tie.Need-lay-requires
-lay-requires c κs =
+lay-requires c κs = 
     let s = c .before .before .before .before .before .before .before .before .before in
     let m = length (s .args .vc .now) in
     let n = length (s .args .vd .now) in (
@@ -116,6 +124,8 @@ fill-spec =
     slice-aggregate-lay-5
     array-borrow-prefix-columns
     slice-aggregate-lay-6
+    add-counts
+    array-borrow-prefix-counts
     slice-aggregate-lay-7
     lay-requires
     same-length
