@@ -251,6 +251,8 @@ static Month month(const std::string &shape, Draw &r, std::size_t m, std::size_t
         for (std::size_t j = 0; j < n; j++) t.vd[j] = (i64)j + 1;
     else if (shape == "many zeros")
         for (auto &x : t.vd) x = r() % 2 ? 0 : (i64)(r() % 4);
+    else if (shape == "many whole")
+        for (std::size_t j = 0; j < n; j++) t.vd[j] = j < n / 2 ? 1 : (i64)n;
     else if (shape == "large amounts")
         for (auto &x : t.vd) x = (i64)(r() % 150000000000000);
     else
@@ -267,6 +269,15 @@ static Month month(const std::string &shape, Draw &r, std::size_t m, std::size_t
         for (auto &x : t.vc) x = -(i64)(r() % 1000000000);
         t.vc[m / 2] = 0;
         t.vc[m / 2] = sum - sum_of(t.vc);
+    } else if (shape == "many whole") {
+        // multiples of ΣVD over its divisors, so that whole cells stand in patterns
+        std::vector<i64> divisors;
+        for (i64 d = 1; d <= sum && d < 2000; d++)
+            if (sum % d == 0) divisors.push_back(d);
+        t.vc.resize(m);
+        for (auto &x : t.vc) x = (i64)(r() % 4) * (sum / divisors[r() % divisors.size()]) + (r() % 4 == 0);
+        t.vc[m / 2] = 0;
+        t.vc[m / 2] = sum - sum_of(t.vc);
     } else if (shape == "many zeros") {
         t.vc.resize(m);
         for (auto &x : t.vc) x = r() % 3 ? 0 : (i64)(r() % (u64)(sum + 1));
@@ -281,7 +292,7 @@ static Month month(const std::string &shape, Draw &r, std::size_t m, std::size_t
 int main(int argc, char **argv) {
     const int runs = argc > 1 ? std::atoi(argv[1]) : 21;
     const std::size_t sizes[][2] = {{17, 64}, {65, 128}, {129, 256}, {257, 512}};
-    const char *shapes[] = {"any", "equal debits", "debits 1 to n", "one large payee", "negative credits", "many zeros", "large amounts"};
+    const char *shapes[] = {"any", "equal debits", "debits 1 to n", "one large payee", "negative credits", "many zeros", "many whole", "large amounts"};
     std::printf("%-17s %9s %9s %9s %6s %9s %9s %6s %8s %8s\n", "shape", "size", "proved", "C++ (a)", "ratio", "floors", "LEMON (b)", "ratio", "ns/cell", "searched");
     for (const char *shape : shapes)
         for (const auto &size : sizes) {
@@ -308,5 +319,23 @@ int main(int argc, char **argv) {
             const std::string name = std::to_string(m) + "x" + std::to_string(n);
             std::printf("%-17s %9s %9.1f %9.1f %6.2f %9.1f %9.1f %6.2f %8.2f %8llu\n", shape, name.c_str(), a, b, a / b, c, d, a / d, a * 1000 / (double)(m * n), (unsigned long long)plain::searched);
         }
+    // the slowest months of the shapes with many whole cells, on which the dealing leaves most to the search
+    for (const char *shape : {"many whole", "many zeros"}) {
+        double slowest = 0;
+        u64 most = 0;
+        const std::size_t m = 257, n = 512;
+        for (u64 seed = 0; seed < 200; seed++) {
+            Draw r(seed);
+            const Month t = month(shape, r, m, n - seed);
+            std::vector<i64> ours(m * (n - seed)), theirs;
+            std::vector<u64> work(2 * ours.size() + 4 * (m + n));
+            const double a = best_of(3, [&] { rateio_test_fill(t.vc.data(), m, t.vd.data(), n - seed, ours.data(), ours.size(), work.data(), work.size()); });
+            plain::fill(t, theirs);
+            if (!right(t, ours)) return 1;
+            slowest = std::max(slowest, a);
+            most = std::max(most, plain::searched);
+        }
+        std::printf("%s, 200 months of 257 by 313 to 512: slowest %.1f, most searched %llu\n", shape, slowest, (unsigned long long)most);
+    }
     return 0;
 }

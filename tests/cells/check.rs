@@ -16,6 +16,7 @@ extern "C" {
 
 const LIMIT: i64 = 100_000_000_000_000_000;
 const BEYOND: usize = 5;
+const SHAPES: usize = 11;
 
 // splitmix64
 struct Random(u64);
@@ -206,6 +207,29 @@ fn month(shape: u64, r: &mut Random, payees: usize, users: usize) -> (Vec<i64>, 
             let reach = [1, 5, LIMIT][r.range(0, 2) as usize];
             (credits(r, payees, 1, reach, 30), vd)
         }
+        // many whole cells in patterns, on which the dealing leaves marks to the search
+        8 | 9 => {
+            let vd: Vec<i64> = match r.range(0, 3) {
+                0 => (0..users).map(|j| if j < users / 2 { 1 } else { users as i64 }).collect(),
+                1 => (0..users).map(|_| [1, 2, 3, 4, 6, 12][r.range(0, 5) as usize]).collect(),
+                2 => (0..users).map(|_| 1 << r.range(0, 4)).collect(),
+                _ => (0..users).map(|j| (j % 3) as i64 + (users == 1) as i64).collect(),
+            };
+            let sum: i64 = vd.iter().sum();
+            if sum == 0 {
+                return month(7, r, payees, users);
+            }
+            let divisors: Vec<i64> = (1..=sum.min(4_000)).filter(|d| sum % d == 0).collect();
+            let mut vc: Vec<i64> = (0..payees)
+                .map(|_| {
+                    let d = divisors[r.range(0, divisors.len() as i64 - 1) as usize];
+                    r.range(-1, 3) * (sum / d) + (r.range(0, 3) == 0) as i64
+                })
+                .collect();
+            vc[payees - 1] = 0;
+            vc[payees - 1] = sum - vc.iter().sum::<i64>();
+            (vc, vd)
+        }
         // amounts at their limits
         _ => {
             let mut vd = vec![0_i64; users];
@@ -232,11 +256,11 @@ fn case_d() -> Result<(), String> {
 
 fn run(tables: u64) -> Result<(), String> {
     case_d()?;
-    let mut seen = [0_u64; 9];
+    let mut seen = [0_u64; SHAPES];
     let (mut cells, mut extra, mut broken_rows) = (0_usize, 0_usize, 0_usize);
     for seed in 0..tables {
         let mut r = Random(seed);
-        let shape = seed % 9;
+        let shape = seed % SHAPES as u64;
         let (payees, users) = match seed % 64 {
             62 => (257, 512),
             63 => (r.range(1, 257) as usize, r.range(1, 512) as usize),
