@@ -25,7 +25,7 @@ use Rattle.cells.specs.Exact.{Left, feasible, row-none, col-none}
 use Rattle.cells.specs.Fill.{Filled}
 use Rattle.cells.specs.Naturals.{NonNegative, debitAt, debit-is, sum-is, Unsigned, Naturals}
 use Rattle.cells.specs.Rows.{quotAt, restAt}
-use Rattle.cells.specs.Floors.{Given, Floored, Place, creditOf, debitOf, quotOf, restOf, exact, parts, spot}
+use Rattle.cells.specs.Floors.{Balanced, Given, Floored, Place, creditOf, debitOf, quotOf, restOf, exact, parts, spot}
 
 -- ---- the premises: what a closing can show of its credits and debits
 pub record Fillable (vc vd : List ℤ) : Type 0 where
@@ -59,10 +59,12 @@ pub given : {vc vd : List ℤ} {debits debits′ : List ℕ} {w : ℕ} → Filla
 given {vc} {vd} {debits} {debits′} {w} F e N =
     let s : sumℤ vd ≡ pos w = sum-is vd (F .debits) ∙ ap pos (sym (N .total)) in
     let l : length debits′ ≡ length vd = N .wrote .long ∙ e in record {
-      some = omega (za, F .some, eq-in s);
+      balanced = record {
+        some = omega (za, F .some, eq-in s);
+        users = rw l (Σ-ext (length vd) (debitOf debits′) (debitAt vd) (λ k h. rw zero-add at (N .wrote .done k h)) ∙ sym (N .total));
+        payees = Σ-list vc (length vc) (omega arith) ∙ sum-end vc (length vc) refl ∙ F .equal ∙ s;
+      };
       most = omega (za, F .most, eq-in s);
-      users = rw l (Σ-ext (length vd) (debitOf debits′) (debitAt vd) (λ k h. rw zero-add at (N .wrote .done k h)) ∙ sym (N .total));
-      payees = Σ-list vc (length vc) (omega arith) ∙ sum-end vc (length vc) refl ∙ F .equal ∙ s;
       values = F .credits;
       tall = F .payees;
     }
@@ -94,7 +96,7 @@ cells-small {vc} {debits} {w} {cells} G F e = record { small = λ p h. inside p 
         (omega (
           arith,
           G .values .small (p / length debits) (s .row),
-          share-small (creditOf vc (p / length debits)) (debitOf debits (p % length debits)) w (parts G (p % length debits)) (G .some) (floor-is (creditOf vc (p / length debits) *ℤ pos (debitOf debits (p % length debits))) w (G .some)),
+          share-small (creditOf vc (p / length debits)) (debitOf debits (p % length debits)) w (parts (G .balanced) (p % length debits)) (G .balanced .some) (floor-is (creditOf vc (p / length debits) *ℤ pos (debitOf debits (p % length debits))) w (G .balanced .some)),
         ))
 
 -- ---- what the search asks
@@ -103,7 +105,7 @@ wanted G F K a b c d e = record {
   shape = record { cells = K .cells ∙ a ∙ sym (ap₂ _*_ d e); wide = K .wide ∙ c ∙ sym e };
   tall = K .tall ∙ b ∙ sym d;
   small = λ p. K .kind .small p (omega (arith, F .left .clear p));
-  feasible = rw (d, e) (still K (feasible (exact G) (F .left)));
+  feasible = rw (d, e) (still K (feasible (exact (G .balanced)) (F .left)));
 }
 
 -- what was dealt counts with what was placed
@@ -124,7 +126,7 @@ line-by n t q b v k h e f =
     ℤs.Σ-ext n t (λ j. q j +ℤ pos (b j)) h ∙ Σ-add n q (λ j. pos (b j)) ∙ ap (λ (z : ℤ). Σ< n q +ℤ z) (Σ-pos n b ∙ ap pos e) ∙ sym f
 
 -- ---- the table
-module _ {vc vd : List ℤ} {debits : List ℕ} {w : ℕ} (G : Given vc debits w) (long : length debits ≡ length vd) (debit : (j : ℕ) → j < length vd → getD vd j (pos 0) ≡ pos (debitOf debits j)) (sum : sumℤ vd ≡ pos w)
+module _ {vc vd : List ℤ} {debits : List ℕ} {w : ℕ} (B : Balanced vc debits w) (long : length debits ≡ length vd) (debit : (j : ℕ) → j < length vd → getD vd j (pos 0) ≡ pos (debitOf debits j)) (sum : sumℤ vd ≡ pos w)
     {cells : List ℤ} {marks lacks wants : List ℕ} (F : Floored vc debits w cells marks lacks wants) {ys : List ℕ} (P : Placed (length vc) (length debits) marks lacks wants ys) (out : List ℤ)
     (put : (i j : ℕ) → i < length vc → j < length debits → cellAt (length debits) out i j ≡ quotOf vc debits w i j +ℤ pos (at (length debits) ys i j - 1)) where
   pub table : length out ≡ length vc * length debits → Table vc vd out
@@ -134,7 +136,7 @@ module _ {vc vd : List ℤ} {debits : List ℕ} {w : ℕ} (G : Given vc debits w
     cell = λ i j h k.
         let k′ : j < length debits = subst (λ (t : ℕ). j < t) (sym long) k in
         rw (debit j k, sum, sym long)
-        (cell-by (creditOf vc i *ℤ pos (debitOf debits j)) w (restOf vc debits w i j) (at (length debits) marks i j) (at (length debits) ys i j) (cellAt (length debits) out i j) (exact G .split i j h k′) (F .left .broken i j h k′) (F .left .clear (i * length debits + j)) (P .kind .small (i * length debits + j) (omega (arith, F .left .clear (i * length debits + j)))) (P .kind .whole (i * length debits + j)) (put i j h k′));
+        (cell-by (creditOf vc i *ℤ pos (debitOf debits j)) w (restOf vc debits w i j) (at (length debits) marks i j) (at (length debits) ys i j) (cellAt (length debits) out i j) (exact B .split i j h k′) (F .left .broken i j h k′) (F .left .clear (i * length debits + j)) (P .kind .small (i * length debits + j) (omega (arith, F .left .clear (i * length debits + j)))) (P .kind .whole (i * length debits + j)) (put i j h k′));
     row = λ i h.
         rw (sym long)
         (line-by (length debits) (λ j. cellAt (length debits) out i j) (λ j. quotOf vc debits w i j) (λ j. at (length debits) ys i j - 1) (creditOf vc i) (getD lacks i 0) (λ j k. put i j h k) (P .rows i h ∙ omega (arith, row-none (length debits) marks i (F .left .clear))) (F .left .rows i h));
@@ -150,7 +152,7 @@ laid {vc} {vd} {debits} {debits′} {w} F e N {cells} {ys = ys} L l a b K c d P 
     let long : length debits′ ≡ length vd = N .wrote .long ∙ e in
     let K′ : Kept (length vc) (length debits′) _ _ _ _ _ _ = rw (a, b ∙ sym long) at K in
     let P′ : Placed (length vc) (length debits′) _ _ _ ys = rw (c, d ∙ sym long) at P in
-    table (given F e N) long
+    table (given F e N .balanced) long
     (λ j h. debit-is (F .debits) j h ∙ ap pos (sym (rw zero-add at (N .wrote .done j h))))
     (sum-is vd (F .debits) ∙ ap pos (sym (N .total)))
     L (placed-after K′ P′) out

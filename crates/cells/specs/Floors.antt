@@ -30,16 +30,20 @@ quotOf vc debits w i j = quotAt (creditOf vc i) debits w j
 abbrev pub restOf : List ℤ → List ℕ → ℕ → ℕ → ℕ → ℕ
 restOf vc debits w i j = restAt (creditOf vc i) debits w j
 
--- the credits and the debits, whose sums are one number w
-pub record Given (vc : List ℤ) (debits : List ℕ) (w : ℕ) : Type 0 where
+-- the credits and the debits, whose sums are one number w above 0
+pub record Balanced (vc : List ℤ) (debits : List ℕ) (w : ℕ) : Type 0 where
   pub some : 0 < w
-  pub most : w ≤ 100000000000000000
   pub users : Σ (length debits) (debitOf debits) ≡ w
   pub payees : Σ< (length vc) (creditOf vc) ≡ pos w
+
+-- and within the limits of the code
+pub record Given (vc : List ℤ) (debits : List ℕ) (w : ℕ) : Type 0 where
+  pub balanced : Balanced vc debits w
+  pub most : w ≤ 100000000000000000
   pub values : Small 100000000000000000 vc
   pub tall : length vc ≤ 257
 
-pub exact : {vc : List ℤ} {debits : List ℕ} {w : ℕ} → Given vc debits w → Exact (length vc) (length debits) w (creditOf vc) (debitOf debits) (quotOf vc debits w) (restOf vc debits w)
+pub exact : {vc : List ℤ} {debits : List ℕ} {w : ℕ} → Balanced vc debits w → Exact (length vc) (length debits) w (creditOf vc) (debitOf debits) (quotOf vc debits w) (restOf vc debits w)
 exact {vc} {debits} {w} G = record {
   some = G .some;
   users = G .users;
@@ -48,9 +52,9 @@ exact {vc} {debits} {w} G = record {
 }
 
 -- no debit is above the sum
-pub parts : {vc : List ℤ} {debits : List ℕ} {w : ℕ} → Given vc debits w → (k : ℕ) → getD debits k 0 ≤ w
-parts {vc} {debits} {w} G k =
-    ⊎-elim (λ h. omega (arith, List·getD-eq-default debits 0 h)) (λ h. omega (arith, Σ-part (length debits) (debitOf debits) k h, G .users)) (le-or-lt (length debits) k)
+pub parts : {vc : List ℤ} {debits : List ℕ} {w : ℕ} → Balanced vc debits w → (k : ℕ) → getD debits k 0 ≤ w
+parts {vc} {debits} {w} B k =
+    ⊎-elim (λ h. omega (arith, List·getD-eq-default debits 0 h)) (λ h. omega (arith, Σ-part (length debits) (debitOf debits) k h, B .users)) (le-or-lt (length debits) k)
 
 -- the slices that are written
 pub record Place (vc : List ℤ) (debits : List ℕ) (cells : List ℤ) (marks lacks wants lefts : List ℕ) : Type 0 where
@@ -87,7 +91,7 @@ rowed-none {w = w} G o = record {
   low = λ b h. absurd (omega arith);
   high = λ b h. absurd (omega arith);
   sum = λ j h. omega (arith, ap (λ (t : ℕ). t * w) (o .no-wants j), o .no-lefts j);
-  less = λ j h. omega (arith, o .no-lefts j, G .some);
+  less = λ j h. omega (arith, o .no-lefts j, G .balanced .some);
   few = λ j h. omega (arith, o .no-wants j);
   cells-long = o .cells-long;
   marks-long = o .marks-long;
@@ -103,15 +107,15 @@ module _ {vc : List ℤ} {debits : List ℕ} {w : ℕ} (G : Given vc debits w) {
   pub row-asks : RowAsks (creditOf vc i) debits w cells marks wants lefts (i * length debits)
   row-asks = record {
     value = G .values .small i h;
-    some = G .some;
+    some = G .balanced .some;
     most = G .most;
-    parts = parts G;
+    parts = parts (G .balanced);
     room = omega (arith, room, R .cells-long);
     room′ = omega (arith, room, R .marks-long);
     wants-long = R .wants-long;
     lefts-long = R .lefts-long;
     few = λ k. ⊎-elim (λ l. omega (arith, List·getD-eq-default wants 0 (subst (λ (t : ℕ). t ≤ k) (sym (R .wants-long)) l))) (λ l. omega (arith, R .few k l, G .tall)) (le-or-lt (length debits) k);
-    less = λ k. ⊎-elim (λ l. omega (arith, G .some, List·getD-eq-default lefts 0 (subst (λ (t : ℕ). t ≤ k) (sym (R .lefts-long)) l))) (λ l. R .less k l) (le-or-lt (length debits) k);
+    less = λ k. ⊎-elim (λ l. omega (arith, G .balanced .some, List·getD-eq-default lefts 0 (subst (λ (t : ℕ). t ≤ k) (sym (R .lefts-long)) l))) (λ l. R .less k l) (le-or-lt (length debits) k);
   }
 
   pub rowed-more : {cells′ : List ℤ} {marks′ wants′ lefts′ : List ℕ} {k : ℕ} → RowFloors (creditOf vc i) debits w cells marks wants lefts (i * length debits) cells′ marks′ wants′ lefts′ (length debits) k → Rowed vc debits w cells′ marks′ (set lacks i k) wants′ lefts′ (i + 1)
@@ -166,10 +170,10 @@ floored {vc} {debits} {w} G {cells} {marks} {lacks} {wants} {lefts} i R h = reco
     clear = λ p. ⊎-elim (λ l. omega (arith, List·getD-eq-default marks 0 (subst (λ (t : ℕ). t ≤ p) (sym (R .marks-long)) l))) (λ l. inside p l) (le-or-lt (length vc * length debits) p);
     whole = λ b j l k e. omega (arith, R .mark b j (omega arith) k);
     broken = λ b j l k e. omega (arith, R .mark b j (omega arith) k);
-    rows = λ b l. want-is (getD lacks b 0) (G .some) (row-line (exact G) b l) (R .low b (omega arith)) (R .high b (omega arith));
+    rows = λ b l. want-is (getD lacks b 0) (G .balanced .some) (row-line (exact (G .balanced)) b l) (R .low b (omega arith)) (R .high b (omega arith));
     cols = λ j l.
         let s = column j l in
-        want-is (getD wants j 0) (G .some) (col-line (exact G) j l) (omega (arith, s)) (omega (arith, s, R .less j l));
+        want-is (getD wants j 0) (G .balanced .some) (col-line (exact (G .balanced)) j l) (omega (arith, s)) (omega (arith, s, R .less j l));
   };
 }
   where

@@ -10,3 +10,5 @@ pub mod Rows
 pub mod Exact
 pub mod Floors
 pub mod Finish
+pub mod Search
+pub mod Exists

@@ -77,7 +77,7 @@ slice-aggregate-lay-7 c = let s = c .before .before .before .before .before .bef
 
 -- src/lib.rt:74:5
 lay-requires : tie.Need-lay-requires
-lay-requires c κs = 
+lay-requires c κs =
     let s = c .before .before .before .before .before .before .before .before .before in
     let m = length (s .args .vc .now) in
     let n = length (s .args .vd .now) in (
