@@ -1,16 +1,12 @@
-use mathlib.Core.Path.{_≡_, ap}
+use mathlib.Core.Path.{ap}
 use native.Mathlib.Omega.{arith}
 use lib.IntN.{pos}
 use Rattle.cells.proofs.cent.Statement.{statement}
 use Rattle.cells.proofs.cent.Tie as tie
-use Rattle.cells.proofs.cent.Reads as reads
-use Rattle.cells.proofs.cent.Lts as lts
 
--- src/lib.rt:101:1
 returns : tie.Need-returns
 returns c = ap pos (omega arith)
 
--- src/lib.rt:101:1
 returns-2 : tie.Need-returns-2
 returns-2 c = ap pos (omega (arith, c .if1 .left))
 

@@ -1,81 +1,61 @@
 -- The work slice's first part takes the marks; fresh arrays take what rows and columns need.
-use mathlib.Core.Path.{_≡_, refl, sym, ap, _∙_}
-use Prim.Native.Nat.{ℕ, _≤_, _+_, _*_}
+use mathlib.Core.Path.{sym}
+use Prim.Native.Nat.{_+_}
 use native.Mathlib.Omega.{arith}
-use lib.ListN.{length, getD, take, length-take}
+use lib.ListN.{length, take, length-take}
 use Rattle.cells.specs.Finish.{part-long, part-clear}
 use borrow.Author.Needs.{needs}
 use Rattle.cells.proofs.fill.Statement.{statement}
 use Rattle.cells.proofs.fill.Tie as tie
-use Rattle.cells.proofs.fill.Reads as reads
-use Rattle.cells.proofs.fill.Lts as lts
-use Rattle.cells.proofs.lay.Reads as lay-reads
 
--- src/lib.rt:78:21
 mul-lay : tie.Need-mul-lay
 mul-lay c = search needs
 
--- src/lib.rt:78:9
 slice-relend-prefix-lay : tie.Need-slice-relend-prefix-lay
 slice-relend-prefix-lay c = search needs
 
--- src/lib.rt:78:9
 slice-aggregate-lay : tie.Need-slice-aggregate-lay
 slice-aggregate-lay c = simp length-take (omega arith)
 
--- src/lib.rt:79:9
 array-borrow-prefix-debits : tie.Need-array-borrow-prefix-debits
 array-borrow-prefix-debits c = search needs
 
--- src/lib.rt:79:9
 slice-aggregate-lay-2 : tie.Need-slice-aggregate-lay-2
 slice-aggregate-lay-2 c = let s = c .before .before .before .before in sym (part-long 512 (length (s .args .vd .now)) (s .pre .0 .users))
 
--- src/lib.rt:80:9
 array-borrow-prefix-lacks : tie.Need-array-borrow-prefix-lacks
 array-borrow-prefix-lacks c = search needs
 
--- src/lib.rt:80:9
 slice-aggregate-lay-3 : tie.Need-slice-aggregate-lay-3
 slice-aggregate-lay-3 c = let s = c .before .before .before .before .before in sym (part-long 257 (length (s .args .vc .now)) (s .pre .0 .payees))
 
--- src/lib.rt:81:9
 array-borrow-prefix-wants : tie.Need-array-borrow-prefix-wants
 array-borrow-prefix-wants c = search needs
 
--- src/lib.rt:81:9
 slice-aggregate-lay-4 : tie.Need-slice-aggregate-lay-4
 slice-aggregate-lay-4 c = let s = c .before .before .before .before .before .before in sym (part-long 512 (length (s .args .vd .now)) (s .pre .0 .users))
 
--- src/lib.rt:82:9
 array-borrow-prefix-rows : tie.Need-array-borrow-prefix-rows
 array-borrow-prefix-rows c = search needs
 
--- src/lib.rt:82:9
 slice-aggregate-lay-5 : tie.Need-slice-aggregate-lay-5
 slice-aggregate-lay-5 c = let s = c .before .before .before .before .before .before .before in sym (part-long 257 (length (s .args .vc .now)) (s .pre .0 .payees))
 
--- src/lib.rt:83:9
 array-borrow-prefix-columns : tie.Need-array-borrow-prefix-columns
 array-borrow-prefix-columns c = search needs
 
--- src/lib.rt:83:9
 slice-aggregate-lay-6 : tie.Need-slice-aggregate-lay-6
 slice-aggregate-lay-6 c = let s = c .before .before .before .before .before .before .before .before in sym (part-long 512 (length (s .args .vd .now)) (s .pre .0 .users))
 
--- src/lib.rt:84:23
 add-counts : tie.Need-add-counts
 add-counts c = search needs
 
--- src/lib.rt:84:9
 array-borrow-prefix-counts : tie.Need-array-borrow-prefix-counts
 array-borrow-prefix-counts c = search needs
 
--- src/lib.rt:84:9
 slice-aggregate-lay-7 : tie.Need-slice-aggregate-lay-7
 slice-aggregate-lay-7 c = let s = c .before .before .before .before .before .before .before .before .before in sym (part-long 258 (length (s .args .vc .now) + 1) (omega (arith, s .pre .0 .payees)))
 
--- src/lib.rt:74:5
 lay-requires : tie.Need-lay-requires
 lay-requires c κs =
     let s = c .before .before .before .before .before .before .before .before .before in
@@ -95,15 +75,12 @@ lay-requires c κs =
       },
     )
 
--- src/lib.rt:62:1
 same-length : tie.Need-same-length
 same-length c = search needs
 
--- src/lib.rt:62:1
 same-length-2 : tie.Need-same-length-2
 same-length-2 c = search needs
 
--- src/lib.rt:62:1
 returns : tie.Need-returns
 returns c = search needs
 

@@ -1,26 +1,15 @@
 -- Each call's promise is the next one's premise (specs/Finish.antt).
-use mathlib.Core.Path.{_≡_, refl, sym, ap, ap₂, _∙_}
-use Prim.Native.Nat.{ℕ, _≤_, _*_}
+use mathlib.Core.Path.{_≡_, sym, ap, ap₂, _∙_}
+use Prim.Native.Nat.{ℕ, _*_}
 use native.Mathlib.Omega.{arith}
-use lib.ListN.{length, getD}
-use Rattle.cells.specs.Floors.{Given, Place, Floored}
-use Rattle.cells.specs.Finish.{unsigned, given, PostAsks, cells-small, wanted, laid}
-use borrow.Author.Needs.{needs}
+use lib.ListN.{length}
+use Rattle.cells.specs.Finish.{unsigned, given, cells-small, wanted, laid}
 use Rattle.cells.proofs.lay.Statement.{statement}
 use Rattle.cells.proofs.lay.Tie as tie
-use Rattle.cells.proofs.lay.Reads as reads
-use Rattle.cells.proofs.lay.Lts as lts
-use Rattle.cells.proofs.deal.deal.Reads as deal-reads
-use Rattle.cells.proofs.floors.floors.Reads as floors-reads
-use Rattle.cells.proofs.floors.naturals.Reads as naturals-reads
-use Rattle.cells.proofs.post.Reads as post-reads
-use Rattle.cells.proofs.search.place.Reads as place-reads
 
--- src/lib.rt:53:9
 naturals-requires : tie.Need-naturals-requires
 naturals-requires c κs = let s = c .before .before .before .before .before .before .before .before in unsigned (s .pre .0) _ (s .pre .1 .debits-long)
 
--- src/lib.rt:54:5
 floors-requires : tie.Need-floors-requires
 floors-requires c κs =
     let s = c .before .before .before .before .before .before .before .before .before .before .before .before .before .before .before .before .before in
@@ -40,7 +29,6 @@ floors-requires c κs =
       },
     )
 
--- src/lib.rt:55:5
 deal-requires : tie.Need-deal-requires
 deal-requires c κs =
     let s = c .before .before .before .before .before .before .before .before .before .before .before .before .before .before .before .before .before .before .before .before .before .before .before .before .before .before .before .before .before .before .before in
@@ -48,7 +36,6 @@ deal-requires c κs =
     let o = s .pre .1 in
     record { cells = f .kept .1 .1 .1 .1 .0 ∙ o .marks-long ∙ sym (ap₂ _*_ (f .kept .1 .1 .1 .1 .1 .0 ∙ o .lacks-long) (f .kept .1 .1 .1 .1 .1 .1 .0 ∙ o .wants-long)) }
 
--- src/lib.rt:56:5
 place-requires : tie.Need-place-requires
 place-requires c κs =
     let s = c .before .before .before .before .before .before .before .before .before .before .before .before .before .before .before .before .before .before .before .before .before .before .before .before .before .before .before .before .before .before .before .before .before .before .before .before .before .before .before .before .before .before .before .before .before in
@@ -59,7 +46,6 @@ place-requires c κs =
     let l : length (n .last .1 .0) ≡ length (s .args .vd .now) = n .kept .1 .0 ∙ o .debits-long in
     wanted (given (s .pre .0) (o .debits-long) (n .ensures)) (f .ensures) (rw (f .kept .1 .1 .1 .1 .1 .0 ∙ o .lacks-long, f .kept .1 .1 .1 .1 .1 .1 .0 ∙ o .wants-long ∙ sym l) at (d .ensures)) (f .kept .1 .1 .1 .1 .0 ∙ o .marks-long ∙ ap (λ (t : ℕ). length (s .args .vc .now) * t) (sym l)) (f .kept .1 .1 .1 .1 .1 .0 ∙ o .lacks-long) (f .kept .1 .1 .1 .1 .1 .1 .0 ∙ o .wants-long ∙ sym l) (o .rows-long) (f .kept .1 .1 .1 .1 .1 .1 .1 .0 ∙ o .columns-long ∙ sym l)
 
--- src/lib.rt:57:5
 post-requires : tie.Need-post-requires
 post-requires c κs =
     let s = c .before .before .before .before .before .before .before .before .before .before .before .before .before .before .before .before .before .before .before .before .before .before .before .before .before .before .before .before .before .before .before .before .before .before .before .before .before .before .before .before .before .before .before .before .before .before .before .before .before .before .before .before .before .before .before .before .before .before in
@@ -75,39 +61,30 @@ post-requires c κs =
       small = cells-small (given (s .pre .0) (o .debits-long) (n .ensures)) (f .ensures) (f .kept .1 .1 .1 .0 ∙ o .cells-long ∙ ap (λ (t : ℕ). length (s .args .vc .now) * t) (sym l));
     }
 
--- src/lib.rt:38:1
 same-length : tie.Need-same-length
 same-length c = c .before .post .kept .0 ∙ c .before .before .before .before .before .before .before .before .before .before .before .before .before .before .before .before .before .before .before .before .before .before .before .before .before .before .before .before .before .before .before .before .before .before .before .before .before .before .before .before .before .before .floors .kept .1 .1 .1 .0
 
--- src/lib.rt:38:1
 same-length-2 : tie.Need-same-length-2
 same-length-2 c = c .before .before .before .before .before .before .before .before .before .before .before .before .before .before .place .kept .0 ∙ c .before .before .before .before .before .before .before .before .before .before .before .before .before .before .before .before .before .before .before .before .before .before .before .before .before .before .before .before .deal .kept .0 ∙ c .before .before .before .before .before .before .before .before .before .before .before .before .before .before .before .before .before .before .before .before .before .before .before .before .before .before .before .before .before .before .before .before .before .before .before .before .before .before .before .before .before .before .floors .kept .1 .1 .1 .1 .0
 
--- src/lib.rt:38:1
 same-length-3 : tie.Need-same-length-3
 same-length-3 c = c .before .before .before .before .before .before .before .before .before .before .before .before .before .before .before .before .before .before .before .before .before .before .before .before .before .before .before .before .before .before .before .before .before .before .before .before .before .before .before .before .before .before .before .before .before .before .before .before .before .before .before .naturals .kept .1 .0
 
--- src/lib.rt:38:1
 same-length-4 : tie.Need-same-length-4
 same-length-4 c = c .before .before .before .before .before .before .before .before .before .before .before .before .before .before .place .kept .1 .0 ∙ c .before .before .before .before .before .before .before .before .before .before .before .before .before .before .before .before .before .before .before .before .before .before .before .before .before .before .before .before .deal .kept .1 .0 ∙ c .before .before .before .before .before .before .before .before .before .before .before .before .before .before .before .before .before .before .before .before .before .before .before .before .before .before .before .before .before .before .before .before .before .before .before .before .before .before .before .before .before .before .floors .kept .1 .1 .1 .1 .1 .0
 
--- src/lib.rt:38:1
 same-length-5 : tie.Need-same-length-5
 same-length-5 c = c .before .before .before .before .before .before .before .before .before .before .before .before .before .before .place .kept .1 .1 .0 ∙ c .before .before .before .before .before .before .before .before .before .before .before .before .before .before .before .before .before .before .before .before .before .before .before .before .before .before .before .before .deal .kept .1 .1 .0 ∙ c .before .before .before .before .before .before .before .before .before .before .before .before .before .before .before .before .before .before .before .before .before .before .before .before .before .before .before .before .before .before .before .before .before .before .before .before .before .before .before .before .before .before .floors .kept .1 .1 .1 .1 .1 .1 .0
 
--- src/lib.rt:38:1
 same-length-6 : tie.Need-same-length-6
 same-length-6 c = c .before .before .before .before .before .before .before .before .before .before .before .before .before .before .place .kept .1 .1 .1 .0
 
--- src/lib.rt:38:1
 same-length-7 : tie.Need-same-length-7
 same-length-7 c = c .before .before .before .before .before .before .before .before .before .before .before .before .before .before .place .kept .1 .1 .1 .1 .0 ∙ c .before .before .before .before .before .before .before .before .before .before .before .before .before .before .before .before .before .before .before .before .before .before .before .before .before .before .before .before .before .before .before .before .before .before .before .before .before .before .before .before .before .before .floors .kept .1 .1 .1 .1 .1 .1 .1 .0
 
--- src/lib.rt:38:1
 same-length-8 : tie.Need-same-length-8
 same-length-8 c = c .before .before .before .before .before .before .before .before .before .before .before .before .before .before .before .before .before .before .before .before .before .before .before .before .before .before .before .before .deal .kept .1 .1 .1 .0
 
--- src/lib.rt:38:1
 returns : tie.Need-returns
 returns c =
     let s = c .before .before .before .before .before .before .before .before .before .before .before .before .before .before .before .before .before .before .before .before .before .before .before .before .before .before .before .before .before .before .before .before .before .before .before .before .before .before .before .before .before .before .before .before .before .before .before .before .before .before .before .before .before .before .before .before .before .before .before .before in

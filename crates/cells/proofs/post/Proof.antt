@@ -1,21 +1,17 @@
-use mathlib.Core.Path.{_≡_, refl, sym, ap, ap₂, _∙_}
-use mathlib.Core.List.{List}
-use Prim.Native.Nat.{ℕ, _+_, _*_, _/_, _≤_, _<_, _-_}
+use mathlib.Core.Path.{_≡_, ap₂}
+use Prim.Native.Nat.{_+_, _≤_, _-_}
 use native.Mathlib.Omega.{arith}
 use native.Mathlib.Nat.{zero-add}
 use borrow.Author.Needs.{needs}
-use lib.ListN.{length, getD, set, length-set}
+use lib.ListN.{length, getD}
 use lib.IntN.{ℤ, pos, _+ℤ_}
 use mir.Syntax.{w64}
 use mir.Val.{SFits}
 use mir.Facts.{toZ-ofZ}
-use Rattle.cells.specs.Fill.{Filled, filled-none, filled-more}
-use Rattle.cells.specs.Finish.{Posted, PostAsks, post-fits}
+use Rattle.cells.specs.Fill.{filled-none, filled-more}
+use Rattle.cells.specs.Finish.{Posted, post-fits}
 use Rattle.cells.proofs.post.Statement.{statement}
 use Rattle.cells.proofs.post.Tie as tie
-use Rattle.cells.proofs.post.Reads as reads
-use Rattle.cells.proofs.post.Lts as lts
-use Rattle.cells.proofs.cent.Reads as cent-reads
 
 abbrev Inv-loop : tie.InvT-loop
 Inv-loop cells₀ marks n i₀ cells i = (i ≤ length cells₀) × Posted cells₀ marks cells i
@@ -27,54 +23,42 @@ abbrev μ-loop : tie.MeasureT-loop
 words : (c : tie.In-loop Inv-loop μ-loop) → SFits w64 (getD (c .before .loop .cells) (c .before .loop .i) (pos 0) +ℤ pos (getD (c .before .before .before .args .marks .now) (c .before .loop .i) 0 - 1)) × SFits w64 (getD (c .before .loop .cells) (c .before .loop .i) (pos 0))
 words c = post-fits (c .before .before .before .pre) (c .before .loop .inv .1) (c .loop-test .taken)
 
--- src/lib.rt:115:5
 loop-holds : tie.Need-loop-holds Inv-loop μ-loop
 loop-holds c = (omega arith, filled-none (pos 0) 0 _ _)
 
--- src/lib.rt:116:23
 mul-cent : tie.Need-mul-cent Inv-loop μ-loop
 mul-cent c = omega (arith, c .before .before .before .good)
 
--- src/lib.rt:116:23
 shared-slice-read-cent : tie.Need-shared-slice-read-cent Inv-loop μ-loop
 shared-slice-read-cent c = omega (arith, c .before .before .before .before .pre .long)
 
--- src/lib.rt:116:13
 cent-requires : tie.Need-cent-requires Inv-loop μ-loop
 cent-requires c κs = c .before .before .before .before .pre .marked (c .before .before .loop .i)
 
--- src/lib.rt:117:20
 mul-cells : tie.Need-mul-cells Inv-loop μ-loop
 mul-cells c = omega (arith, c .before .before .before .loop .inv .1 .long, c .before .before .loop-test .taken, c .before .before .before .before .before .good)
 
--- src/lib.rt:117:20
 slice-copy-out-cells : tie.Need-slice-copy-out-cells Inv-loop μ-loop
 slice-copy-out-cells c = omega (arith, c .before .before .before .loop .inv .1 .long, c .before .before .loop-test .taken, c .before .before .before .before .before .good)
 
--- src/lib.rt:117:20
 add-cells : tie.Need-add-cells Inv-loop μ-loop
 add-cells c =
     let l = words (c .before .before .before) in
     let g : SFits w64 (c .before .cent .result) = search needs in
     simp (toZ-ofZ, l .1, g) (rw (c .before .cent .ensures) (l .0))
 
--- src/lib.rt:117:9
 mul-t13 : tie.Need-mul-t13 Inv-loop μ-loop
 mul-t13 c = omega (arith, c .before .before .before .before .loop .inv .1 .long, c .before .before .before .loop-test .taken, c .before .before .before .before .before .before .good)
 
--- src/lib.rt:117:9
 slice-set-from-cells : tie.Need-slice-set-from-cells Inv-loop μ-loop
 slice-set-from-cells c = omega (arith, c .before .before .before .before .loop .inv .1 .long, c .before .before .before .loop-test .taken, c .before .before .before .before .before .before .good)
 
--- src/lib.rt:118:9
 add-i : tie.Need-add-i Inv-loop μ-loop
 add-i c = omega (arith, c .before .before .before .loop-test .taken, c .before .before .before .before .before .before .good)
 
--- src/lib.rt:115:5
 loop-less : tie.Need-loop-less Inv-loop μ-loop
 loop-less c = omega (arith, c .before .before .before .loop-test .taken)
 
--- src/lib.rt:115:5
 loop-again : tie.Need-loop-again Inv-loop μ-loop
 loop-again c =
     let l = words (c .before .before .before) in
@@ -86,11 +70,9 @@ loop-again c =
     ap₂ _+ℤ_ (p .inv .1 .after (p .i) (omega arith)) (c .before .cent .ensures) in
     simp (toZ-ofZ, l .1, g, f) (omega (arith, c .before .before .before .loop-test .taken), rw zero-add at (filled-more (p .inv .1) (omega (arith, p .inv .1 .long, c .before .before .before .loop-test .taken)) (getD (p .cells) (p .i) (pos 0) +ℤ c .before .cent .result) z))
 
--- src/lib.rt:109:1
 same-length : tie.Need-same-length Inv-loop μ-loop
 same-length c = c .before .loop .inv .1 .long
 
--- src/lib.rt:109:1
 returns : tie.Need-returns Inv-loop μ-loop
 returns c =
     let e : c .before .loop .i ≡ length (c .before .before .before .args .cells .now) = omega arith in

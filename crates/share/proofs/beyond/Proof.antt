@@ -1,16 +1,11 @@
 -- The three tests in turn.
-use mathlib.Core.Path.{_≡_, sym, ap, _∙_}
-use mathlib.Core.Bool.{Bool, true, false, _||_}
+use mathlib.Core.Path.{_≡_, sym, _∙_}
 use borrow.Author.Needs.{needs}
 use borrow.Author.Tests.{lt-ltb, le-ltb}
-use lib.Dec.{ltb, eqb}
 use mir.Facts.{toZ-ofZ}
 use Rattle.share.specs.Answer.{badAmount}
 use Rattle.share.proofs.beyond.Statement.{statement}
 use Rattle.share.proofs.beyond.Tie as tie
-use Rattle.share.proofs.beyond.Reads as reads
-use Rattle.share.proofs.beyond.Lts as lts
-use Rattle.ints.proofs.outside.Reads as outside-reads
 
 sub-outside : tie.Need-sub-outside
 sub-outside c = search needs

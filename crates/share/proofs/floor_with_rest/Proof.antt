@@ -1,14 +1,10 @@
 -- Beyond the limits zeros; within them the floor and the rest.
-use mathlib.Core.Path.{_≡_, sym, ap, _∙_}
+use mathlib.Core.Path.{_≡_, sym, _∙_}
 use borrow.Author.Needs.{needs}
 use mir.Facts.{toZ-ofZ}
 use Rattle.share.specs.Exact.{beyond, Limits, limits, floored-beyond, floored-split}
 use Rattle.share.proofs.floor_with_rest.Statement.{statement}
 use Rattle.share.proofs.floor_with_rest.Tie as tie
-use Rattle.share.proofs.floor_with_rest.Reads as reads
-use Rattle.share.proofs.floor_with_rest.Lts as lts
-use Rattle.share.proofs.beyond.Reads as beyond-reads
-use Rattle.share.proofs.split.Reads as split-reads
 
 tested : (c : tie.After-beyond) → c .beyond .result ≡ beyond (c .before .args .p) (c .before .args .t) (c .before .args .w)
 tested c = simp (toZ-ofZ, c .before .fits .p) at (c .beyond .ensures)

@@ -6,7 +6,6 @@ use mathlib.Core.Path.{_≡_, sym, ap, _∙_}
 use borrow.Author.Needs.{needs}
 use Rattle.wide.specs.declared.Divided.{Divided}
 use Rattle.wide.specs.declared.Words.{Words}
-use Rattle.wide.specs.declared.Ratio.{Ratio}
 use Rattle.wide.specs.declared.Ratio.the-variants.{Exact, Over, ByZero}
 use Rattle.wide.specs.Exact.{divided}
 use Rattle.wide.proofs.Laws.{ratio-exact}

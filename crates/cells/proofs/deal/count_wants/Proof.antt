@@ -1,14 +1,11 @@
 -- Only the length matters: what is counted is a choice.
-use mathlib.Core.Path.{_≡_, refl, _∙_}
-use Prim.Native.Nat.{ℕ, _+_, _*_, _≤_, _<_, _-_}
+use mathlib.Core.Path.{_≡_}
+use Prim.Native.Nat.{_≤_, _-_}
 use native.Mathlib.Omega.{arith}
 use borrow.Author.Needs.{needs}
 use lib.ListN.{length, length-set}
 use Rattle.cells.proofs.deal.count_wants.Statement.{statement}
 use Rattle.cells.proofs.deal.count_wants.Tie as tie
-use Rattle.cells.proofs.deal.count_wants.Reads as reads
-use Rattle.cells.proofs.deal.count_wants.Lts as lts
-use Rattle.std.proofs.num.wrapping_add_u64.Reads as wrapping-add-u64-reads
 
 abbrev Inv-loop : tie.InvT-loop
 Inv-loop marks wants i counts₀ n base j₀ counts j = (j ≤ n) × (length counts ≡ length counts₀)
@@ -16,87 +13,66 @@ Inv-loop marks wants i counts₀ n base j₀ counts j = (j ≤ n) × (length cou
 abbrev μ-loop : tie.MeasureT-loop
 μ-loop marks wants i counts₀ n base j₀ counts j = n - j
 
--- src/deal.rt:21:16
 mul-base : tie.Need-mul-base Inv-loop μ-loop
 mul-base c = omega arith
 
--- src/deal.rt:23:5
 loop-holds : tie.Need-loop-holds Inv-loop μ-loop
 loop-holds c = omega arith
 
--- src/deal.rt:25:9
 add-j : tie.Need-add-j Inv-loop μ-loop
 add-j c = omega arith
 
--- src/deal.rt:26:17
 mul-k : tie.Need-mul-k Inv-loop μ-loop
 mul-k c = omega arith
 
--- src/deal.rt:26:17
 shared-slice-read-k : tie.Need-shared-slice-read-k Inv-loop μ-loop
 shared-slice-read-k c = omega arith
 
--- src/deal.rt:28:22
 add-if2 : tie.Need-add-if2 Inv-loop μ-loop
 add-if2 c = omega arith
 
--- src/deal.rt:28:16
 mul-if2 : tie.Need-mul-if2 Inv-loop μ-loop
 mul-if2 c = omega arith
 
--- src/deal.rt:28:16
 shared-slice-read-if2 : tie.Need-shared-slice-read-if2 Inv-loop μ-loop
 shared-slice-read-if2 c = omega arith
 
--- src/deal.rt:29:56
 mul-wrapping-add-u64 : tie.Need-mul-wrapping-add-u64 Inv-loop μ-loop
 mul-wrapping-add-u64 c = omega arith
 
--- src/deal.rt:29:56
 slice-read-wrapping-add-u64 : tie.Need-slice-read-wrapping-add-u64 Inv-loop μ-loop
 slice-read-wrapping-add-u64 c = omega arith
 
--- src/deal.rt:29:29
 wrapping-add-u64-requires : tie.Need-wrapping-add-u64-requires Inv-loop μ-loop
 wrapping-add-u64-requires c κs = search needs
 
--- src/deal.rt:29:17
 mul-counts : tie.Need-mul-counts Inv-loop μ-loop
 mul-counts c = omega arith
 
--- src/deal.rt:29:17
 slice-write-counts : tie.Need-slice-write-counts Inv-loop μ-loop
 slice-write-counts c = omega arith
 
--- src/deal.rt:23:5
 loop-less : tie.Need-loop-less Inv-loop μ-loop
 loop-less c = omega arith
 
--- src/deal.rt:23:5
 loop-again : tie.Need-loop-again Inv-loop μ-loop
 loop-again c = (omega (arith, c .before .before .before .before .before .before .loop-test .taken), simp length-set (c .before .before .before .before .before .before .before .loop .inv .1))
 
--- src/deal.rt:23:5
 loop-less-2 : tie.Need-loop-less-2 Inv-loop μ-loop
 loop-less-2 c = omega arith
 
--- src/deal.rt:23:5
 loop-again-2 : tie.Need-loop-again-2 Inv-loop μ-loop
 loop-again-2 c = omega arith
 
--- src/deal.rt:23:5
 loop-less-3 : tie.Need-loop-less-3 Inv-loop μ-loop
 loop-less-3 c = omega arith
 
--- src/deal.rt:23:5
 loop-again-3 : tie.Need-loop-again-3 Inv-loop μ-loop
 loop-again-3 c = omega arith
 
--- src/deal.rt:17:1
 same-length : tie.Need-same-length Inv-loop μ-loop
 same-length c = omega arith
 
--- src/deal.rt:17:1
 returns : tie.Need-returns Inv-loop μ-loop
 returns c = search needs
 

@@ -1,75 +1,56 @@
 -- Every call keeps the totals.
-use mathlib.Core.Path.{_≡_, refl, sym, ap₂, _∙_}
-use Prim.Native.Nat.{ℕ, _+_, _*_, _≤_, _<_, _-_}
+use mathlib.Core.Path.{sym, ap₂, _∙_}
+use Prim.Native.Nat.{_*_, _-_}
 use native.Mathlib.Omega.{arith}
 use native.Mathlib.Nat.{mul-le-mul-right}
 use borrow.Author.Needs.{needs}
 use lib.ListN.{length}
-use Rattle.cells.specs.Kept.{Kept, Grid, kept-none, kept-then}
+use Rattle.cells.specs.Kept.{kept-then}
 use borrow.Author.Needs.{needs}
 use Rattle.cells.proofs.deal.deal_row.Statement.{statement}
 use Rattle.cells.proofs.deal.deal_row.Tie as tie
-use Rattle.cells.proofs.deal.deal_row.Reads as reads
-use Rattle.cells.proofs.deal.deal_row.Lts as lts
-use Rattle.cells.proofs.deal.clear.Reads as clear-reads
-use Rattle.cells.proofs.deal.count_wants.Reads as count-wants-reads
-use Rattle.cells.proofs.deal.level.Reads as level-reads
-use Rattle.cells.proofs.deal.take.Reads as take-reads
 
--- src/deal.rt:85:5
 clear-requires : tie.Need-clear-requires
 clear-requires c κs = search needs
 
--- src/deal.rt:86:5
 count-wants-requires : tie.Need-count-wants-requires
 count-wants-requires c κs =
     let s = c .before .before .before .before .before .before .before .before .before .before .before in
     omega (arith, s .pre .0 .cells, mul-le-mul-right (length (s .args .wants .now)) (s .pre .1))
 
--- src/deal.rt:87:27
 mul-level : tie.Need-mul-level
 mul-level c = search needs
 
--- src/deal.rt:87:27
 slice-read-level : tie.Need-slice-read-level
 slice-read-level c = search needs
 
--- src/deal.rt:87:9
 level-requires : tie.Need-level-requires
 level-requires c κs = search needs
 
--- src/deal.rt:88:34
 add-take : tie.Need-add-take
 add-take c = search needs
 
--- src/deal.rt:88:5
 take-requires : tie.Need-take-requires
 take-requires c κs = search needs
 
--- src/deal.rt:89:5
 take-requires-2 : tie.Need-take-requires-2
 take-requires-2 c κs =
     let s = c .before .before .before .before .before .before .before .before .before .before .before .before .before .before .before .before .before .before .before .before .before .before .before .before .before .before .before .before .before .before in
     let k = c .before .before .before .before .before .before .before .before .before .take .ensures in
     (record { cells = k .cells ∙ s .pre .0 .cells ∙ sym (ap₂ _*_ (k .tall) (k .wide)) }, omega (arith, k .tall, s .pre .1), c .before .before .before .before .before .before .before .before .before .before .before .before .before .level .ensures .0)
 
--- src/deal.rt:75:1
 same-length : tie.Need-same-length
 same-length c = search needs
 
--- src/deal.rt:75:1
 same-length-2 : tie.Need-same-length-2
 same-length-2 c = search needs
 
--- src/deal.rt:75:1
 same-length-3 : tie.Need-same-length-3
 same-length-3 c = search needs
 
--- src/deal.rt:75:1
 same-length-4 : tie.Need-same-length-4
 same-length-4 c = search needs
 
--- src/deal.rt:75:1
 returns : tie.Need-returns
 returns c =
     let a = c .before .before .before .before .before .before .before .before .before .before .before .before .before .before .before .before .take .ensures in

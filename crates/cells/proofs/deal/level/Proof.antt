@@ -1,12 +1,9 @@
 -- t goes down from the number of entries to 1.
-use Prim.Native.Nat.{ℕ, _+_, _*_, _≤_, _<_, _-_}
+use Prim.Native.Nat.{_≤_, _-_}
 use native.Mathlib.Omega.{arith}
-use borrow.Author.Needs.{needs}
 use lib.ListN.{length}
 use Rattle.cells.proofs.deal.level.Statement.{statement}
 use Rattle.cells.proofs.deal.level.Tie as tie
-use Rattle.cells.proofs.deal.level.Reads as reads
-use Rattle.cells.proofs.deal.level.Lts as lts
 
 abbrev Inv-loop : tie.InvT-loop
 Inv-loop counts k left₀ t₀ left t = t ≤ length counts
@@ -14,47 +11,36 @@ Inv-loop counts k left₀ t₀ left t = t ≤ length counts
 abbrev μ-loop : tie.MeasureT-loop
 μ-loop counts k left₀ t₀ left t = t
 
--- src/deal.rt:41:5
 loop-holds : tie.Need-loop-holds Inv-loop μ-loop
 loop-holds c = omega arith
 
--- src/deal.rt:42:9
 sub-t : tie.Need-sub-t Inv-loop μ-loop
 sub-t c = omega arith
 
--- src/deal.rt:43:12
 mul-if1 : tie.Need-mul-if1 Inv-loop μ-loop
 mul-if1 c = omega arith
 
--- src/deal.rt:43:12
 shared-slice-read-if1 : tie.Need-shared-slice-read-if1 Inv-loop μ-loop
 shared-slice-read-if1 c = omega arith
 
--- src/deal.rt:44:13
 returns : tie.Need-returns Inv-loop μ-loop
 returns c = omega arith
 
--- src/deal.rt:46:17
 mul-left : tie.Need-mul-left Inv-loop μ-loop
 mul-left c = omega arith
 
--- src/deal.rt:46:17
 shared-slice-read-left : tie.Need-shared-slice-read-left Inv-loop μ-loop
 shared-slice-read-left c = omega arith
 
--- src/deal.rt:46:9
 sub-left : tie.Need-sub-left Inv-loop μ-loop
 sub-left c = omega arith
 
--- src/deal.rt:41:5
 loop-less : tie.Need-loop-less Inv-loop μ-loop
 loop-less c = omega arith
 
--- src/deal.rt:41:5
 loop-again : tie.Need-loop-again Inv-loop μ-loop
 loop-again c = omega arith
 
--- src/deal.rt:36:1
 returns-2 : tie.Need-returns-2 Inv-loop μ-loop
 returns-2 c = omega arith
 

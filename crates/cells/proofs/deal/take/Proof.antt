@@ -1,15 +1,11 @@
 -- Each mark keeps every total; the cell of row i and column j lies in the table.
-use mathlib.Core.Path.{_≡_, refl, sym, ap, _∙_}
-use Prim.Native.Nat.{ℕ, _+_, _*_, _≤_, _<_, _-_, _^_}
+use Prim.Native.Nat.{_+_, _*_, _≤_, _<_, _-_, _^_}
 use native.Mathlib.Omega.{arith}
-use borrow.Author.Needs.{needs}
-use lib.ListN.{length, getD, set, length-set}
-use Rattle.cells.specs.Marks.{at, below}
+use lib.ListN.{length}
+use Rattle.cells.specs.Marks.{below}
 use Rattle.cells.specs.Kept.{Kept, kept-none, kept-then, kept-mark}
 use Rattle.cells.proofs.deal.take.Statement.{statement}
 use Rattle.cells.proofs.deal.take.Tie as tie
-use Rattle.cells.proofs.deal.take.Reads as reads
-use Rattle.cells.proofs.deal.take.Lts as lts
 
 abbrev Inv-loop : tie.InvT-loop
 Inv-loop marks₀ lacks₀ wants₀ i least m n j₀ marks lacks wants j = (j ≤ n) × Kept m n marks₀ lacks₀ wants₀ marks lacks wants
@@ -35,99 +31,75 @@ here c =
       row = omega (arith, k .tall);
     }
 
--- src/deal.rt:59:5
 loop-holds : tie.Need-loop-holds Inv-loop μ-loop
 loop-holds c = (omega arith, kept-none _ _ _)
 
--- src/deal.rt:61:9
 add-j : tie.Need-add-j Inv-loop μ-loop
 add-j c = omega arith
 
--- src/deal.rt:62:12
 mul-if1 : tie.Need-mul-if1 Inv-loop μ-loop
 mul-if1 c = omega arith
 
--- src/deal.rt:62:12
 slice-read-if1 : tie.Need-slice-read-if1 Inv-loop μ-loop
 slice-read-if1 c = here (c .before) .column
 
--- src/deal.rt:63:22
 mul-if2 : tie.Need-mul-if2 Inv-loop μ-loop
 mul-if2 c = omega (arith, here (c .before .before))
 
--- src/deal.rt:63:22
 add-if2 : tie.Need-add-if2 Inv-loop μ-loop
 add-if2 c = omega (arith, here (c .before .before))
 
--- src/deal.rt:63:16
 mul-if2-2 : tie.Need-mul-if2-2 Inv-loop μ-loop
 mul-if2-2 c = omega (arith, here (c .before .before))
 
--- src/deal.rt:63:16
 slice-read-if2 : tie.Need-slice-read-if2 Inv-loop μ-loop
 slice-read-if2 c = here (c .before .before .before) .cell
 
--- src/deal.rt:64:20
 mul-if3 : tie.Need-mul-if3 Inv-loop μ-loop
 mul-if3 c = omega (arith, here (c .before .before .before .before))
 
--- src/deal.rt:64:20
 slice-read-if3 : tie.Need-slice-read-if3 Inv-loop μ-loop
 slice-read-if3 c = here (c .before .before .before .before .before) .row
 
--- src/deal.rt:65:27
 mul-marks : tie.Need-mul-marks Inv-loop μ-loop
 mul-marks c = omega (arith, here (c .before .before .before .before .before .before))
 
--- src/deal.rt:65:27
 add-marks : tie.Need-add-marks Inv-loop μ-loop
 add-marks c = omega (arith, here (c .before .before .before .before .before .before))
 
--- src/deal.rt:65:21
 mul-marks-2 : tie.Need-mul-marks-2 Inv-loop μ-loop
 mul-marks-2 c = omega (arith, here (c .before .before .before .before .before .before))
 
--- src/deal.rt:65:21
 slice-write-marks : tie.Need-slice-write-marks Inv-loop μ-loop
 slice-write-marks c = here (c .before .before .before .before .before .before) .cell
 
--- src/deal.rt:66:21
 mul-wants : tie.Need-mul-wants Inv-loop μ-loop
 mul-wants c = omega (arith, here (c .before .before .before .before .before .before))
 
--- src/deal.rt:66:21
 slice-read-wants : tie.Need-slice-read-wants Inv-loop μ-loop
 slice-read-wants c = here (c .before .before .before .before .before .before .before) .column
 
--- src/deal.rt:66:21
 sub-wants : tie.Need-sub-wants Inv-loop μ-loop
 sub-wants c = omega (arith, c .before .before .before .before .before .if1 .taken, c .before .before .before .before .before .before .before .before .before .pre .2)
 
--- src/deal.rt:66:21
 slice-write-wants : tie.Need-slice-write-wants Inv-loop μ-loop
 slice-write-wants c = here (c .before .before .before .before .before .before .before) .column
 
--- src/deal.rt:67:21
 mul-lacks : tie.Need-mul-lacks Inv-loop μ-loop
 mul-lacks c = omega (arith, here (c .before .before .before .before .before .before .before))
 
--- src/deal.rt:67:21
 slice-read-lacks : tie.Need-slice-read-lacks Inv-loop μ-loop
 slice-read-lacks c = here (c .before .before .before .before .before .before .before .before) .row
 
--- src/deal.rt:67:21
 sub-lacks : tie.Need-sub-lacks Inv-loop μ-loop
 sub-lacks c = c .before .before .if3 .taken
 
--- src/deal.rt:67:21
 slice-write-lacks : tie.Need-slice-write-lacks Inv-loop μ-loop
 slice-write-lacks c = here (c .before .before .before .before .before .before .before .before) .row
 
--- src/deal.rt:59:5
 loop-less : tie.Need-loop-less Inv-loop μ-loop
 loop-less c = omega arith
 
--- src/deal.rt:59:5
 loop-again : tie.Need-loop-again Inv-loop μ-loop
 loop-again c =
     let l = c .before .before .before .before .before .before .before .before in
@@ -138,43 +110,33 @@ loop-again c =
           (kept-mark _ _ _ (s .args .i) (l .before .loop .j) (s .pre .1) (l .loop-test .taken) (h .cell) (h .row) (h .column) (c .before .before .before .before .if2 .taken) (c .before .before .if3 .taken) (omega (arith, c .before .before .before .before .before .before .if1 .taken, s .pre .2))),
     )
 
--- src/deal.rt:59:5
 loop-less-2 : tie.Need-loop-less-2 Inv-loop μ-loop
 loop-less-2 c = omega arith
 
--- src/deal.rt:59:5
 loop-again-2 : tie.Need-loop-again-2 Inv-loop μ-loop
 loop-again-2 c = (omega (arith, c .before .before .before .before .before .before .loop-test .taken), c .before .before .before .before .before .before .before .loop .inv .1)
 
--- src/deal.rt:59:5
 loop-less-3 : tie.Need-loop-less-3 Inv-loop μ-loop
 loop-less-3 c = omega arith
 
--- src/deal.rt:59:5
 loop-again-3 : tie.Need-loop-again-3 Inv-loop μ-loop
 loop-again-3 c = (omega (arith, c .before .before .before .before .loop-test .taken), c .before .before .before .before .before .loop .inv .1)
 
--- src/deal.rt:59:5
 loop-less-4 : tie.Need-loop-less-4 Inv-loop μ-loop
 loop-less-4 c = omega arith
 
--- src/deal.rt:59:5
 loop-again-4 : tie.Need-loop-again-4 Inv-loop μ-loop
 loop-again-4 c = (omega (arith, c .before .before .loop-test .taken), c .before .before .before .loop .inv .1)
 
--- src/deal.rt:52:1
 same-length : tie.Need-same-length Inv-loop μ-loop
 same-length c = c .before .loop .inv .1 .cells
 
--- src/deal.rt:52:1
 same-length-2 : tie.Need-same-length-2 Inv-loop μ-loop
 same-length-2 c = c .before .loop .inv .1 .tall
 
--- src/deal.rt:52:1
 same-length-3 : tie.Need-same-length-3 Inv-loop μ-loop
 same-length-3 c = c .before .loop .inv .1 .wide
 
--- src/deal.rt:52:1
 returns : tie.Need-returns Inv-loop μ-loop
 returns c = c .before .loop .inv .1
 

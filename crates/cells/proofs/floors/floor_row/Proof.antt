@@ -1,26 +1,18 @@
 -- Each turn writes one cell and its mark, and adds the remainder to its column's sum and to the row's.
-use mathlib.Core.Path.{_≡_, refl, sym, ap, _∙_}
-use mathlib.Core.List.{List}
-use Prim.Native.Nat.{ℕ, _+_, _*_, _≤_, _<_, _-_, _^_}
+use mathlib.Core.Path.{_≡_, ap, _∙_}
+use Prim.Native.Nat.{_+_, _*_, _<_, _-_, _^_}
 use native.Mathlib.Omega.{arith}
 use borrow.Author.Needs.{needs}
-use lib.ListN.{length, getD, set, length-set}
-use lib.IntN.{ℤ, pos, _*ℤ_}
+use lib.ListN.{length, getD}
 use mir.Syntax.{w64}
 use mir.Val.{SFits, toZ}
 use mir.Facts.{toZ-ofZ}
-use Rattle.ints.specs.Bridge.{abs, za}
 use Rattle.ints.specs.Words.{back}
 use Rattle.share.specs.Exact.{floored-within}
 use Rattle.share.specs.declared.Floored.{Floored}
-use Rattle.cells.specs.Rows.{RowAsks, RowFloors, RowGoing, quotAt, restAt, row-start, row-more, column-sum, row-sum, column-few}
+use Rattle.cells.specs.Rows.{RowAsks, RowGoing, quotAt, restAt, row-start, row-more, column-sum, row-sum, column-few}
 use Rattle.cells.proofs.floors.floor_row.Statement.{statement}
 use Rattle.cells.proofs.floors.floor_row.Tie as tie
-use Rattle.cells.proofs.floors.floor_row.Reads as reads
-use Rattle.cells.proofs.floors.floor_row.Lts as lts
-use Rattle.cells.proofs.floors.broken.Reads as broken-reads
-use Rattle.cells.proofs.floors.carry.Reads as carry-reads
-use Rattle.share.proofs.floor_with_rest.Reads as floor-with-rest-reads
 
 abbrev Inv-loop : tie.InvT-loop
 Inv-loop v debits w cells₀ marks₀ wants₀ lefts₀ base n lacks₀ left₀ j₀ cells marks wants lefts lacks left j = RowGoing (toZ w64 v) debits w cells₀ marks₀ wants₀ lefts₀ base cells marks wants lefts j lacks left
@@ -74,131 +66,99 @@ whole c =
     let l = c .before .before .before .loop in
     omega (arith, row-sum (asks s) (l .inv) (c .before .before .loop-test .taken), got c .1)
 
--- src/floors.rt:62:5
 loop-holds : tie.Need-loop-holds Inv-loop μ-loop
 loop-holds c = row-start (asks (c .before .before .before .before))
 
--- src/floors.rt:63:43
 mul-floor-with-rest : tie.Need-mul-floor-with-rest Inv-loop μ-loop
 mul-floor-with-rest c = omega arith
 
--- src/floors.rt:63:43
 shared-slice-read-floor-with-rest : tie.Need-shared-slice-read-floor-with-rest Inv-loop μ-loop
 shared-slice-read-floor-with-rest c = omega arith
 
--- src/floors.rt:63:13
 floor-with-rest-requires : tie.Need-floor-with-rest-requires Inv-loop μ-loop
 floor-with-rest-requires c κs = search needs
 
--- src/floors.rt:66:15
 add-q : tie.Need-add-q Inv-loop μ-loop
 add-q c = omega (arith, here (c .before .before .before))
 
--- src/floors.rt:66:9
 mul-q : tie.Need-mul-q Inv-loop μ-loop
 mul-q c = omega (arith, here (c .before .before .before))
 
--- src/floors.rt:66:9
 slice-set-from-q : tie.Need-slice-set-from-q Inv-loop μ-loop
 slice-set-from-q c = here (c .before .before .before) .cell
 
--- src/floors.rt:67:27
 broken-requires : tie.Need-broken-requires Inv-loop μ-loop
 broken-requires c κs = search needs
 
--- src/floors.rt:67:15
 add-marks : tie.Need-add-marks Inv-loop μ-loop
 add-marks c = omega (arith, here (c .before .before .before .before))
 
--- src/floors.rt:67:9
 mul-marks : tie.Need-mul-marks Inv-loop μ-loop
 mul-marks c = omega (arith, here (c .before .before .before .before))
 
--- src/floors.rt:67:9
 slice-write-marks : tie.Need-slice-write-marks Inv-loop μ-loop
 slice-write-marks c = here (c .before .before .before .before) .mark
 
--- src/floors.rt:68:17
 mul-s : tie.Need-mul-s Inv-loop μ-loop
 mul-s c = omega (arith, here (c .before .before .before .before))
 
--- src/floors.rt:68:17
 slice-read-s : tie.Need-slice-read-s Inv-loop μ-loop
 slice-read-s c = here (c .before .before .before .before .before) .left
 
--- src/floors.rt:68:17
 add-s : tie.Need-add-s Inv-loop μ-loop
 add-s c = omega (arith, column (c .before .before .before), c .before .before .before .before .before .before .before .before .before .before .before .pre .most)
 
--- src/floors.rt:69:13
 carry-requires : tie.Need-carry-requires Inv-loop μ-loop
 carry-requires c κs = column (c .before .before .before)
 
--- src/floors.rt:70:24
 mul-lefts : tie.Need-mul-lefts Inv-loop μ-loop
 mul-lefts c = omega (arith, c .carry .ensures .low, column (c .before .before .before .before), c .before .before .before .before .before .before .before .before .before .before .before .before .pre .most)
 
--- src/floors.rt:70:20
 sub-lefts : tie.Need-sub-lefts Inv-loop μ-loop
 sub-lefts c = c .carry .ensures .low
 
--- src/floors.rt:70:9
 mul-lefts-2 : tie.Need-mul-lefts-2 Inv-loop μ-loop
 mul-lefts-2 c = omega (arith, here (c .before .before .before .before .before .before))
 
--- src/floors.rt:70:9
 slice-write-lefts : tie.Need-slice-write-lefts Inv-loop μ-loop
 slice-write-lefts c = here (c .before .before .before .before .before .before) .left
 
--- src/floors.rt:71:20
 mul-wants : tie.Need-mul-wants Inv-loop μ-loop
 mul-wants c = omega (arith, here (c .before .before .before .before .before .before))
 
--- src/floors.rt:71:20
 slice-read-wants : tie.Need-slice-read-wants Inv-loop μ-loop
 slice-read-wants c = here (c .before .before .before .before .before .before .before) .want
 
--- src/floors.rt:71:20
 add-wants : tie.Need-add-wants Inv-loop μ-loop
 add-wants c = omega (arith, column-few (asks (c .before .before .before .before .before .before .before .before .before .before .before .before .before)) (c .before .before .before .before .before .before .before .before .loop .inv) (c .before .before .before .before .before .before .before .loop-test .taken), c .before .carry .ensures .once)
 
--- src/floors.rt:71:9
 mul-wants-2 : tie.Need-mul-wants-2 Inv-loop μ-loop
 mul-wants-2 c = omega (arith, here (c .before .before .before .before .before .before .before))
 
--- src/floors.rt:71:9
 slice-write-wants : tie.Need-slice-write-wants Inv-loop μ-loop
 slice-write-wants c = here (c .before .before .before .before .before .before .before) .want
 
--- src/floors.rt:72:17
 add-t : tie.Need-add-t Inv-loop μ-loop
 add-t c = omega (arith, whole (c .before .before .before .before .before), c .before .before .before .before .before .before .before .before .before .before .before .before .before .pre .most)
 
--- src/floors.rt:73:13
 carry-requires-2 : tie.Need-carry-requires-2 Inv-loop μ-loop
 carry-requires-2 c κs = whole (c .before .before .before .before .before)
 
--- src/floors.rt:74:20
 mul-left : tie.Need-mul-left Inv-loop μ-loop
 mul-left c = omega (arith, c .carry2 .ensures .low, whole (c .before .before .before .before .before .before), c .before .before .before .before .before .before .before .before .before .before .before .before .before .before .pre .most)
 
--- src/floors.rt:74:16
 sub-left : tie.Need-sub-left Inv-loop μ-loop
 sub-left c = c .carry2 .ensures .low
 
--- src/floors.rt:75:9
 add-lacks : tie.Need-add-lacks Inv-loop μ-loop
 add-lacks c = omega (arith, c .before .before .before .before .before .before .before .before .before .loop .inv .few, c .carry2 .ensures .once, c .before .before .before .before .before .before .before .before .loop-test .taken, c .before .before .before .before .before .before .before .before .before .before .before .before .before .before .good)
 
--- src/floors.rt:76:9
 add-j : tie.Need-add-j Inv-loop μ-loop
 add-j c = omega (arith, c .before .before .before .before .before .before .before .before .loop-test .taken, c .before .before .before .before .before .before .before .before .before .before .before .before .before .before .good)
 
--- src/floors.rt:62:5
 loop-less : tie.Need-loop-less Inv-loop μ-loop
 loop-less c = omega (arith, c .before .before .before .before .before .before .before .before .loop-test .taken)
 
--- src/floors.rt:62:5
 loop-again : tie.Need-loop-again Inv-loop μ-loop
 loop-again c =
     let f = c .before .before .before .before .before .before in
@@ -207,23 +167,18 @@ loop-again c =
     rw (toZ-ofZ g)
     (row-more (asks (c .before .before .before .before .before .before .before .before .before .before .before .before .before .before)) (l .before .loop .inv) (l .loop-test .taken) (f .floor-with-rest .result .quot) (f .floor-with-rest .result .rem) (got f .0) (got f .1) (c .before .before .before .before .broken .result) (c .before .before .before .before .broken .ensures) (c .before .before .carry .result) (c .before .before .carry .ensures) (c .carry2 .result) (c .carry2 .ensures))
 
--- src/floors.rt:45:1
 same-length : tie.Need-same-length Inv-loop μ-loop
 same-length c = c .before .loop .inv .row .cell .long
 
--- src/floors.rt:45:1
 same-length-2 : tie.Need-same-length-2 Inv-loop μ-loop
 same-length-2 c = c .before .loop .inv .row .mark .long
 
--- src/floors.rt:45:1
 same-length-3 : tie.Need-same-length-3 Inv-loop μ-loop
 same-length-3 c = c .before .loop .inv .row .sum .wants-long
 
--- src/floors.rt:45:1
 same-length-4 : tie.Need-same-length-4 Inv-loop μ-loop
 same-length-4 c = c .before .loop .inv .row .sum .lefts-long
 
--- src/floors.rt:45:1
 returns : tie.Need-returns Inv-loop μ-loop
 returns c =
     let s = c .before .before .before .before .before .before in

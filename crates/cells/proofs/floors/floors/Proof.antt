@@ -1,22 +1,17 @@
 -- Row by row; the rows below i are done.
-use mathlib.Core.Path.{_≡_, refl, sym, ap, _∙_}
-use mathlib.Core.List.{List}
-use Prim.Native.Nat.{ℕ, _+_, _*_, _≤_, _<_, _-_}
+use mathlib.Core.Path.{sym, _∙_}
+use Prim.Native.Nat.{_-_}
 use native.Mathlib.Omega.{arith}
 use native.Mathlib.Nat.{mul-le-mul-right}
-use borrow.Author.Needs.{needs}
-use lib.ListN.{length, getD, set, length-set}
-use lib.IntN.{ℤ, pos}
+use lib.ListN.{length, getD}
+use lib.IntN.{pos}
 use mir.Syntax.{w64}
 use mir.Val.{SFits}
 use mir.Facts.{toZ-ofZ}
 use Rattle.ints.specs.Sums.{small-fits}
-use Rattle.cells.specs.Floors.{Given, Place, Rowed, rowed-none, rowed-more, row-asks, floored}
+use Rattle.cells.specs.Floors.{Rowed, rowed-none, rowed-more, row-asks, floored}
 use Rattle.cells.proofs.floors.floors.Statement.{statement}
 use Rattle.cells.proofs.floors.floors.Tie as tie
-use Rattle.cells.proofs.floors.floors.Reads as reads
-use Rattle.cells.proofs.floors.floors.Lts as lts
-use Rattle.cells.proofs.floors.floor_row.Reads as floor-row-reads
 
 abbrev Inv-loop : tie.InvT-loop
 Inv-loop vc debits w cells₀ marks₀ lacks₀ wants₀ lefts₀ m n i₀ cells marks lacks wants lefts i = Rowed vc debits w cells marks lacks wants lefts i
@@ -29,73 +24,57 @@ credit c =
     let s = c .before .before .before .before .before .before .before in
     small-fits 100000000000000000 (s .args .vc .now) (c .before .loop .i) (omega arith) (c .loop-test .taken) (s .pre .0 .values)
 
--- src/floors.rt:98:5
 loop-holds : tie.Need-loop-holds Inv-loop μ-loop
 loop-holds c = let s = c .before .before .before .before .before in rowed-none (s .pre .0) (s .pre .1)
 
--- src/floors.rt:99:30
 mul-floor-row : tie.Need-mul-floor-row Inv-loop μ-loop
 mul-floor-row c = omega (arith, c .before .before .before .before .before .before .before .good)
 
--- src/floors.rt:99:30
 shared-slice-copy-out-floor-row : tie.Need-shared-slice-copy-out-floor-row Inv-loop μ-loop
 shared-slice-copy-out-floor-row c = c .loop-test .taken
 
--- src/floors.rt:99:76
 mul-floor-row-2 : tie.Need-mul-floor-row-2 Inv-loop μ-loop
 mul-floor-row-2 c =
     let s = c .before .before .before .before .before .before .before .before .before .before .before .before in
     omega (arith, s .pre .1 .marks-long, mul-le-mul-right (length (s .args .debits .now)) (c .before .before .before .before .before .loop-test .taken), s .good)
 
--- src/floors.rt:99:20
 floor-row-requires : tie.Need-floor-row-requires Inv-loop μ-loop
 floor-row-requires c κs =
     let l = c .before .before .before .before .before in
     rw (toZ-ofZ (credit l)) (row-asks (c .before .before .before .before .before .before .before .before .before .before .before .before .pre .0) (l .before .loop .inv) (l .loop-test .taken))
 
--- src/floors.rt:99:9
 mul-lacks : tie.Need-mul-lacks Inv-loop μ-loop
 mul-lacks c = omega (arith, c .before .before .before .before .before .before .before .before .before .before .before .before .before .before .loop .inv .lacks-long, c .before .before .before .before .before .before .before .before .before .before .before .before .before .loop-test .taken, c .before .before .before .before .before .before .before .before .before .before .before .before .before .before .before .before .before .before .before .before .good)
 
--- src/floors.rt:99:9
 slice-write-lacks : tie.Need-slice-write-lacks Inv-loop μ-loop
 slice-write-lacks c = omega (arith, c .before .before .before .before .before .before .before .before .before .before .before .before .before .before .loop .inv .lacks-long, c .before .before .before .before .before .before .before .before .before .before .before .before .before .loop-test .taken)
 
--- src/floors.rt:100:9
 add-i : tie.Need-add-i Inv-loop μ-loop
 add-i c = omega (arith, c .before .before .before .before .before .before .before .before .before .before .before .before .before .loop-test .taken, c .before .before .before .before .before .before .before .before .before .before .before .before .before .before .before .before .before .before .before .before .good)
 
--- src/floors.rt:98:5
 loop-less : tie.Need-loop-less Inv-loop μ-loop
 loop-less c = omega (arith, c .before .before .before .before .before .before .before .before .before .before .before .before .before .loop-test .taken)
 
--- src/floors.rt:98:5
 loop-again : tie.Need-loop-again Inv-loop μ-loop
 loop-again c =
     let l = c .before .before .before .before .before .before .before .before .before .before .before .before .before in
     rowed-more (c .before .before .before .before .before .before .before .before .before .before .before .before .before .before .before .before .before .before .before .before .pre .0) (l .before .loop .inv) (l .loop-test .taken) (rw (toZ-ofZ (credit l)) at (c .before .before .before .before .before .before .before .floor-row .ensures))
 
--- src/floors.rt:82:1
 same-length : tie.Need-same-length Inv-loop μ-loop
 same-length c = c .before .loop .inv .cells-long ∙ sym (c .before .before .before .before .before .before .before .pre .1 .cells-long)
 
--- src/floors.rt:82:1
 same-length-2 : tie.Need-same-length-2 Inv-loop μ-loop
 same-length-2 c = c .before .loop .inv .marks-long ∙ sym (c .before .before .before .before .before .before .before .pre .1 .marks-long)
 
--- src/floors.rt:82:1
 same-length-3 : tie.Need-same-length-3 Inv-loop μ-loop
 same-length-3 c = c .before .loop .inv .lacks-long ∙ sym (c .before .before .before .before .before .before .before .pre .1 .lacks-long)
 
--- src/floors.rt:82:1
 same-length-4 : tie.Need-same-length-4 Inv-loop μ-loop
 same-length-4 c = c .before .loop .inv .wants-long ∙ sym (c .before .before .before .before .before .before .before .pre .1 .wants-long)
 
--- src/floors.rt:82:1
 same-length-5 : tie.Need-same-length-5 Inv-loop μ-loop
 same-length-5 c = c .before .loop .inv .lefts-long ∙ sym (c .before .before .before .before .before .before .before .pre .1 .lefts-long)
 
--- src/floors.rt:82:1
 returns : tie.Need-returns Inv-loop μ-loop
 returns c = let s = c .before .before .before .before .before .before .before in floored (s .pre .0) (c .before .loop .i) (c .before .loop .inv) (c .loop-test .left)
 

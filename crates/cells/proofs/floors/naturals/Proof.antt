@@ -1,20 +1,17 @@
 -- What was written so far, and its sum.
-use mathlib.Core.Path.{_≡_, refl, sym, ap, _∙_}
-use Prim.Native.Nat.{ℕ, _+_, _*_, _≤_, _<_, _-_}
+use mathlib.Core.Path.{_≡_}
+use Prim.Native.Nat.{_-_}
 use native.Mathlib.Omega.{arith}
-use borrow.Author.Needs.{needs}
 use lib.ListN.{length, getD}
-use lib.IntN.{ℤ, pos, natAbs}
+use lib.IntN.{pos, natAbs}
 use mir.Syntax.{w64}
 use mir.Val.{SFits}
 use mir.Facts.{toZ-ofZ}
-use Rattle.ints.specs.Bridge.{up, dn, abs-is, za}
+use Rattle.ints.specs.Bridge.{dn, abs-is, za}
 use Rattle.ints.specs.Words.{back}
 use Rattle.cells.specs.Naturals.{Naturals, debitAt, naturals-start, naturals-more, sum-small}
 use Rattle.cells.proofs.floors.naturals.Statement.{statement}
 use Rattle.cells.proofs.floors.naturals.Tie as tie
-use Rattle.cells.proofs.floors.naturals.Reads as reads
-use Rattle.cells.proofs.floors.naturals.Lts as lts
 
 abbrev Inv-loop : tie.InvT-loop
 Inv-loop vd debits₀ n sum₀ j₀ debits sum j = Naturals vd debits₀ debits j sum
@@ -36,51 +33,39 @@ size c =
     let d = debit c in
     simp (toZ-ofZ, d .1) (omega (arith, d .0, abs-is (getD (s .args .vd .now) (c .before .loop .j) (pos 0))))
 
--- src/floors.rt:19:5
 loop-holds : tie.Need-loop-holds Inv-loop μ-loop
 loop-holds c = naturals-start _ _
 
--- src/floors.rt:20:17
 mul-x : tie.Need-mul-x Inv-loop μ-loop
 mul-x c = omega arith
 
--- src/floors.rt:20:17
 shared-slice-copy-out-x : tie.Need-shared-slice-copy-out-x Inv-loop μ-loop
 shared-slice-copy-out-x c = c .loop-test .taken
 
--- src/floors.rt:20:17
 cast-x : tie.Need-cast-x Inv-loop μ-loop
 cast-x c = let d = debit (c .before) in simp (toZ-ofZ, d .1) (omega (za, d .0))
 
--- src/floors.rt:21:9
 mul-debits : tie.Need-mul-debits Inv-loop μ-loop
 mul-debits c = omega arith
 
--- src/floors.rt:21:9
 slice-write-debits : tie.Need-slice-write-debits Inv-loop μ-loop
 slice-write-debits c = omega (arith, c .before .before .loop .inv .wrote .long, c .before .before .before .pre .long)
 
--- src/floors.rt:22:9
 add-sum : tie.Need-add-sum Inv-loop μ-loop
 add-sum c = omega (arith, size (c .before), sum-small (c .before .before .before .pre) (c .before .before .loop .inv) (c .before .loop-test .taken))
 
--- src/floors.rt:23:9
 add-j : tie.Need-add-j Inv-loop μ-loop
 add-j c = omega arith
 
--- src/floors.rt:19:5
 loop-less : tie.Need-loop-less Inv-loop μ-loop
 loop-less c = omega arith
 
--- src/floors.rt:19:5
 loop-again : tie.Need-loop-again Inv-loop μ-loop
 loop-again c = naturals-more (c .before .before .before .pre) (c .before .before .loop .inv) (c .before .loop-test .taken) _ (size (c .before))
 
--- src/floors.rt:12:1
 same-length : tie.Need-same-length Inv-loop μ-loop
 same-length c = c .before .loop .inv .wrote .long
 
--- src/floors.rt:12:1
 returns : tie.Need-returns Inv-loop μ-loop
 returns c =
     let e : c .before .loop .j ≡ length (c .before .before .args .vd .now) = omega (arith, c .before .loop .inv .here) in

@@ -1,12 +1,10 @@
-use mathlib.Core.Path.{_≡_, refl, sym, ap, ap₂, _∙_}
-use Prim.Native.Nat.{ℕ, _+_, _*_, _^_, _-_, _≤_, _<_}
+use mathlib.Core.Path.{refl, sym, ap, ap₂, _∙_}
+use Prim.Native.Nat.{ℕ, _+_, _*_, _^_, _-_, _<_}
 use native.Mathlib.Omega.{arith}
-use borrow.Author.Needs.{needs}
 use native.Mathlib.Nat.{mul-le-mul-right}
-use lib.ListN.{length, getD, set, length-set}
-use Rattle.ints.specs.NatSums.{total, total-set}
+use lib.ListN.{length, set, length-set}
+use Rattle.ints.specs.NatSums.{total}
 use Rattle.cells.specs.Marks.{at, below}
-use Rattle.cells.specs.Visit.{Free, Shape}
 use Rattle.cells.specs.Turns.{RowInv, ColInv, row-start, row-skip, row-miss, row-wants, row-less, row-hit, row-last, row-now, col-start, col-skip, col-miss, col-less, col-hit, col-last}
 use borrow.Fn.Kinds.{In}
 use borrow.Fn.PlainCycle.{Measures, is, falls, and}
@@ -55,7 +53,6 @@ col-cell : (t : ℕ) (c : ColIn t) → (c .before .loop .i * length (c .before .
 col-cell t c =
     omega (arith, ap length (c .before .loop .inv .0 .same), c .before .before .before .before .before .before .pre .1 .0 .cells, below (c .loop-test .taken) (c .before .before .before .before .before .before .pre .1 .1), c .before .before .before .before .before .before .good)
 
--- src/search.rt:65:5
 visit-column-mul-columns :
     (t : ℕ) →
     visit-column-lts.Need-mul-columns
@@ -66,14 +63,12 @@ visit-column-mul-columns :
     visit-column-μ-loop
 visit-column-mul-columns t c = omega arith
 
--- src/search.rt:65:5
 visit-column-slice-write-columns : (t : ℕ) → visit-column-lts.Need-slice-write-columns (
   visit-row-below t,
   visit-row.Post,
 ) (visit-column-at t) visit-column.Post visit-column-Inv-loop visit-column-μ-loop
 visit-column-slice-write-columns t c = omega arith
 
--- src/search.rt:67:5
 visit-column-loop-holds :
     (t : ℕ) →
     visit-column-lts.Need-loop-holds
@@ -84,7 +79,6 @@ visit-column-loop-holds :
     visit-column-μ-loop
 visit-column-loop-holds t c = let s = c .before .before .before .before in col-start (s .args .marks .now) (s .args .wants .now) (s .args .rows .now) (set (s .args .columns .now) (s .args .j) 0) (s .args .j) refl (length-set (s .args .columns .now) (s .args .j) 0)
 
--- src/search.rt:69:9
 visit-column-add-i :
     (t : ℕ) →
     visit-column-lts.Need-add-i
@@ -95,7 +89,6 @@ visit-column-add-i :
     visit-column-μ-loop
 visit-column-add-i t c = omega arith
 
--- src/search.rt:70:12
 visit-column-mul-if1 :
     (t : ℕ) →
     visit-column-lts.Need-mul-if1
@@ -106,14 +99,12 @@ visit-column-mul-if1 :
     visit-column-μ-loop
 visit-column-mul-if1 t c = omega arith
 
--- src/search.rt:70:12
 visit-column-slice-read-if1 : (t : ℕ) → visit-column-lts.Need-slice-read-if1 (
   visit-row-below t,
   visit-row.Post,
 ) (visit-column-at t) visit-column.Post visit-column-Inv-loop visit-column-μ-loop
 visit-column-slice-read-if1 t c = omega arith
 
--- src/search.rt:71:22
 visit-column-mul-if2 :
     (t : ℕ) →
     visit-column-lts.Need-mul-if2
@@ -124,7 +115,6 @@ visit-column-mul-if2 :
     visit-column-μ-loop
 visit-column-mul-if2 t c = omega (arith, col-cell t (c .before .before))
 
--- src/search.rt:71:22
 visit-column-add-if2 :
     (t : ℕ) →
     visit-column-lts.Need-add-if2
@@ -135,7 +125,6 @@ visit-column-add-if2 :
     visit-column-μ-loop
 visit-column-add-if2 t c = omega (arith, col-cell t (c .before .before))
 
--- src/search.rt:71:16
 visit-column-mul-if2-2 :
     (t : ℕ) →
     visit-column-lts.Need-mul-if2-2
@@ -146,14 +135,12 @@ visit-column-mul-if2-2 :
     visit-column-μ-loop
 visit-column-mul-if2-2 t c = omega (arith, col-cell t (c .before .before))
 
--- src/search.rt:71:16
 visit-column-slice-read-if2 : (t : ℕ) → visit-column-lts.Need-slice-read-if2 (
   visit-row-below t,
   visit-row.Post,
 ) (visit-column-at t) visit-column.Post visit-column-Inv-loop visit-column-μ-loop
 visit-column-slice-read-if2 t c = col-cell t (c .before .before .before) .0
 
--- src/search.rt:72:20
 visit-column-visit-row-requires : (t : ℕ) → visit-column-lts.Need-visit-row-requires (
   visit-row-below t,
   visit-row.Post,
@@ -170,7 +157,6 @@ visit-column-visit-row-requires t c κs =
       ),
     )
 
--- src/search.rt:73:27
 visit-column-mul-marks :
     (t : ℕ) →
     visit-column-lts.Need-mul-marks
@@ -181,7 +167,6 @@ visit-column-mul-marks :
     visit-column-μ-loop
 visit-column-mul-marks t c = omega (arith, col-cell t (c .before .before .before .before .before .before .before .before .before .before .before .before .before .before .before .before .before .before))
 
--- src/search.rt:73:27
 visit-column-add-marks :
     (t : ℕ) →
     visit-column-lts.Need-add-marks
@@ -192,49 +177,42 @@ visit-column-add-marks :
     visit-column-μ-loop
 visit-column-add-marks t c = omega (arith, col-cell t (c .before .before .before .before .before .before .before .before .before .before .before .before .before .before .before .before .before .before))
 
--- src/search.rt:73:21
 visit-column-mul-marks-2 : (t : ℕ) → visit-column-lts.Need-mul-marks-2 (
   visit-row-below t,
   visit-row.Post,
 ) (visit-column-at t) visit-column.Post visit-column-Inv-loop visit-column-μ-loop
 visit-column-mul-marks-2 t c = omega (arith, col-cell t (c .before .before .before .before .before .before .before .before .before .before .before .before .before .before .before .before .before .before))
 
--- src/search.rt:73:21
 visit-column-slice-write-marks : (t : ℕ) → visit-column-lts.Need-slice-write-marks (
   visit-row-below t,
   visit-row.Post,
 ) (visit-column-at t) visit-column.Post visit-column-Inv-loop visit-column-μ-loop
 visit-column-slice-write-marks t c = omega (arith, col-cell t (c .before .before .before .before .before .before .before .before .before .before .before .before .before .before .before .before .before .before), c .before .before .before .before .before .before .before .before .before .visit-row .kept .0)
 
--- src/search.rt:74:21
 visit-column-same-length : (t : ℕ) → visit-column-lts.Need-same-length (
   visit-row-below t,
   visit-row.Post,
 ) (visit-column-at t) visit-column.Post visit-column-Inv-loop visit-column-μ-loop
 visit-column-same-length t c = simp length-set (c .before .before .before .before .before .before .before .before .before .visit-row .kept .0 ∙ ap length (c .before .before .before .before .before .before .before .before .before .before .before .before .before .before .before .before .before .before .before .loop .inv .0 .same))
 
--- src/search.rt:74:21
 visit-column-same-length-2 : (t : ℕ) → visit-column-lts.Need-same-length-2 (
   visit-row-below t,
   visit-row.Post,
 ) (visit-column-at t) visit-column.Post visit-column-Inv-loop visit-column-μ-loop
 visit-column-same-length-2 t c = c .before .before .before .before .before .before .before .before .before .visit-row .kept .1 .0 ∙ ap length (c .before .before .before .before .before .before .before .before .before .before .before .before .before .before .before .before .before .before .before .loop .inv .0 .wants)
 
--- src/search.rt:74:21
 visit-column-same-length-3 : (t : ℕ) → visit-column-lts.Need-same-length-3 (
   visit-row-below t,
   visit-row.Post,
 ) (visit-column-at t) visit-column.Post visit-column-Inv-loop visit-column-μ-loop
 visit-column-same-length-3 t c = c .before .before .before .before .before .before .before .before .before .visit-row .kept .1 .1 .0 ∙ c .before .before .before .before .before .before .before .before .before .before .before .before .before .before .before .before .before .before .before .loop .inv .0 .tall
 
--- src/search.rt:74:21
 visit-column-same-length-4 : (t : ℕ) → visit-column-lts.Need-same-length-4 (
   visit-row-below t,
   visit-row.Post,
 ) (visit-column-at t) visit-column.Post visit-column-Inv-loop visit-column-μ-loop
 visit-column-same-length-4 t c = c .before .before .before .before .before .before .before .before .before .visit-row .kept .1 .1 .1 .0 ∙ c .before .before .before .before .before .before .before .before .before .before .before .before .before .before .before .before .before .before .before .loop .inv .0 .long
 
--- src/search.rt:74:21
 visit-column-returns :
     (t : ℕ) →
     visit-column-lts.Need-returns
@@ -249,7 +227,6 @@ visit-column-returns t c =
     let v = c .before .before .before .before .before .before .before .before .before .visit-row in
     col-hit (s .args .columns .now) (s .args .j) (s .pre .1 .1) (s .pre .1 .2) (l .before .loop .i) (l .before .loop .inv) (v .result) (omega arith) (omega (arith, col-cell t l, v .kept .0)) (c .before .before .before .before .before .before .before .before .before .before .before .before .before .before .if2 .taken) (c .before .before .before .before .before .before .before .before .before .before .before .before .before .before .before .before .if1 .taken) (v .ensures) (c .if3 .taken)
 
--- src/search.rt:67:5
 visit-column-loop-less :
     (t : ℕ) →
     visit-column-lts.Need-loop-less
@@ -260,7 +237,6 @@ visit-column-loop-less :
     visit-column-μ-loop
 visit-column-loop-less t c = omega arith
 
--- src/search.rt:67:5
 visit-column-loop-again :
     (t : ℕ) →
     visit-column-lts.Need-loop-again
@@ -274,63 +250,54 @@ visit-column-loop-again t c =
     let v = c .before .before .before .before .before .before .before .before .before .visit-row in
     col-miss (l .before .before .before .before .before .before .args .j) (l .before .loop .i) (l .before .loop .inv) (l .loop-test .taken) (v .result) (v .ensures) (c .if3 .left) (v .kept .1 .1 .0) (v .kept .1 .1 .1 .0)
 
--- src/search.rt:67:5
 visit-column-loop-less-2 : (t : ℕ) → visit-column-lts.Need-loop-less-2 (
   visit-row-below t,
   visit-row.Post,
 ) (visit-column-at t) visit-column.Post visit-column-Inv-loop visit-column-μ-loop
 visit-column-loop-less-2 t c = omega arith
 
--- src/search.rt:67:5
 visit-column-loop-again-2 : (t : ℕ) → visit-column-lts.Need-loop-again-2 (
   visit-row-below t,
   visit-row.Post,
 ) (visit-column-at t) visit-column.Post visit-column-Inv-loop visit-column-μ-loop
 visit-column-loop-again-2 t c = let l = c .before .before .before .before in col-skip (l .before .before .before .before .before .before .args .j) (l .before .loop .i) (l .before .loop .inv) (l .loop-test .taken) (λ e. absurd (c .if2 .left e))
 
--- src/search.rt:67:5
 visit-column-loop-less-3 : (t : ℕ) → visit-column-lts.Need-loop-less-3 (
   visit-row-below t,
   visit-row.Post,
 ) (visit-column-at t) visit-column.Post visit-column-Inv-loop visit-column-μ-loop
 visit-column-loop-less-3 t c = omega arith
 
--- src/search.rt:67:5
 visit-column-loop-again-3 : (t : ℕ) → visit-column-lts.Need-loop-again-3 (
   visit-row-below t,
   visit-row.Post,
 ) (visit-column-at t) visit-column.Post visit-column-Inv-loop visit-column-μ-loop
 visit-column-loop-again-3 t c = let l = c .before .before in col-skip (l .before .before .before .before .before .before .args .j) (l .before .loop .i) (l .before .loop .inv) (l .loop-test .taken) (λ e. omega arith)
 
--- src/search.rt:59:1
 visit-column-same-length-5 : (t : ℕ) → visit-column-lts.Need-same-length-5 (
   visit-row-below t,
   visit-row.Post,
 ) (visit-column-at t) visit-column.Post visit-column-Inv-loop visit-column-μ-loop
 visit-column-same-length-5 t c = ap length (c .before .loop .inv .0 .same)
 
--- src/search.rt:59:1
 visit-column-same-length-6 : (t : ℕ) → visit-column-lts.Need-same-length-6 (
   visit-row-below t,
   visit-row.Post,
 ) (visit-column-at t) visit-column.Post visit-column-Inv-loop visit-column-μ-loop
 visit-column-same-length-6 t c = ap length (c .before .loop .inv .0 .wants)
 
--- src/search.rt:59:1
 visit-column-same-length-7 : (t : ℕ) → visit-column-lts.Need-same-length-7 (
   visit-row-below t,
   visit-row.Post,
 ) (visit-column-at t) visit-column.Post visit-column-Inv-loop visit-column-μ-loop
 visit-column-same-length-7 t c = c .before .loop .inv .0 .tall
 
--- src/search.rt:59:1
 visit-column-same-length-8 : (t : ℕ) → visit-column-lts.Need-same-length-8 (
   visit-row-below t,
   visit-row.Post,
 ) (visit-column-at t) visit-column.Post visit-column-Inv-loop visit-column-μ-loop
 visit-column-same-length-8 t c = c .before .loop .inv .0 .long
 
--- src/search.rt:59:1
 visit-column-returns-2 :
     (t : ℕ) →
     visit-column-lts.Need-returns-2
@@ -356,7 +323,6 @@ row-cell : (t : ℕ) (c : RowIn t) → (c .before .before .before .before .befor
 row-cell t c =
     omega (arith, ap length (c .before .loop .inv .0 .same), c .before .before .before .before .before .before .before .before .before .before .before .pre .1 .0 .cells, below (c .before .before .before .before .before .before .before .before .before .before .before .pre .1 .1) (c .loop-test .taken), c .before .before .before .before .before .before .before .before .before .before .before .good)
 
--- src/search.rt:35:5
 visit-row-mul-rows : (t : ℕ) → visit-row-lts.Need-mul-rows (
   most-wanting-reads.Asked,
   most-wanting-reads.Learnt,
@@ -365,7 +331,6 @@ visit-row-mul-rows : (t : ℕ) → visit-row-lts.Need-mul-rows (
 ) (visit-row-at t) visit-row.Post visit-row-Inv-loop visit-row-μ-loop
 visit-row-mul-rows t c = omega arith
 
--- src/search.rt:35:5
 visit-row-slice-write-rows : (t : ℕ) → visit-row-lts.Need-slice-write-rows (
   most-wanting-reads.Asked,
   most-wanting-reads.Learnt,
@@ -374,7 +339,6 @@ visit-row-slice-write-rows : (t : ℕ) → visit-row-lts.Need-slice-write-rows (
 ) (visit-row-at t) visit-row.Post visit-row-Inv-loop visit-row-μ-loop
 visit-row-slice-write-rows t c = omega arith
 
--- src/search.rt:36:9
 visit-row-most-wanting-requires : (t : ℕ) → visit-row-lts.Need-most-wanting-requires (
   most-wanting-reads.Asked,
   most-wanting-reads.Learnt,
@@ -383,7 +347,6 @@ visit-row-most-wanting-requires : (t : ℕ) → visit-row-lts.Need-most-wanting-
 ) (visit-row-at t) visit-row.Post visit-row-Inv-loop visit-row-μ-loop
 visit-row-most-wanting-requires t c κs = let s = c .before .before .before .before .before .before .before in (s .pre .1 .0 .wide, omega (arith, s .pre .1 .0 .cells, mul-le-mul-right (length (s .args .columns .now)) (s .pre .1 .1)))
 
--- src/search.rt:38:9
 visit-row-mul-wants : (t : ℕ) → visit-row-lts.Need-mul-wants (
   most-wanting-reads.Asked,
   most-wanting-reads.Learnt,
@@ -392,7 +355,6 @@ visit-row-mul-wants : (t : ℕ) → visit-row-lts.Need-mul-wants (
 ) (visit-row-at t) visit-row.Post visit-row-Inv-loop visit-row-μ-loop
 visit-row-mul-wants t c = omega arith
 
--- src/search.rt:38:9
 visit-row-slice-read-wants : (t : ℕ) → visit-row-lts.Need-slice-read-wants (
   most-wanting-reads.Asked,
   most-wanting-reads.Learnt,
@@ -401,7 +363,6 @@ visit-row-slice-read-wants : (t : ℕ) → visit-row-lts.Need-slice-read-wants (
 ) (visit-row-at t) visit-row.Post visit-row-Inv-loop visit-row-μ-loop
 visit-row-slice-read-wants t c = omega arith
 
--- src/search.rt:38:9
 visit-row-sub-wants : (t : ℕ) → visit-row-lts.Need-sub-wants (
   most-wanting-reads.Asked,
   most-wanting-reads.Learnt,
@@ -410,7 +371,6 @@ visit-row-sub-wants : (t : ℕ) → visit-row-lts.Need-sub-wants (
 ) (visit-row-at t) visit-row.Post visit-row-Inv-loop visit-row-μ-loop
 visit-row-sub-wants t c = let h = c .before .before .most-wanting .ensures .found (c .before .if1 .taken) in omega (arith, h)
 
--- src/search.rt:38:9
 visit-row-slice-write-wants : (t : ℕ) → visit-row-lts.Need-slice-write-wants (
   most-wanting-reads.Asked,
   most-wanting-reads.Learnt,
@@ -419,7 +379,6 @@ visit-row-slice-write-wants : (t : ℕ) → visit-row-lts.Need-slice-write-wants
 ) (visit-row-at t) visit-row.Post visit-row-Inv-loop visit-row-μ-loop
 visit-row-slice-write-wants t c = omega arith
 
--- src/search.rt:39:15
 visit-row-mul-marks : (t : ℕ) → visit-row-lts.Need-mul-marks (
   most-wanting-reads.Asked,
   most-wanting-reads.Learnt,
@@ -428,7 +387,6 @@ visit-row-mul-marks : (t : ℕ) → visit-row-lts.Need-mul-marks (
 ) (visit-row-at t) visit-row.Post visit-row-Inv-loop visit-row-μ-loop
 visit-row-mul-marks t c = let s = c .before .before .before .before .before .before .before .before .before .before in omega (arith, s .pre .1 .0 .cells, below (s .pre .1 .1) (c .before .if1 .taken), s .good)
 
--- src/search.rt:39:15
 visit-row-add-marks : (t : ℕ) → visit-row-lts.Need-add-marks (
   most-wanting-reads.Asked,
   most-wanting-reads.Learnt,
@@ -437,7 +395,6 @@ visit-row-add-marks : (t : ℕ) → visit-row-lts.Need-add-marks (
 ) (visit-row-at t) visit-row.Post visit-row-Inv-loop visit-row-μ-loop
 visit-row-add-marks t c = let s = c .before .before .before .before .before .before .before .before .before .before in omega (arith, s .pre .1 .0 .cells, below (s .pre .1 .1) (c .before .if1 .taken), s .good)
 
--- src/search.rt:39:9
 visit-row-mul-marks-2 : (t : ℕ) → visit-row-lts.Need-mul-marks-2 (
   most-wanting-reads.Asked,
   most-wanting-reads.Learnt,
@@ -446,7 +403,6 @@ visit-row-mul-marks-2 : (t : ℕ) → visit-row-lts.Need-mul-marks-2 (
 ) (visit-row-at t) visit-row.Post visit-row-Inv-loop visit-row-μ-loop
 visit-row-mul-marks-2 t c = let s = c .before .before .before .before .before .before .before .before .before .before in omega (arith, s .pre .1 .0 .cells, below (s .pre .1 .1) (c .before .if1 .taken), s .good)
 
--- src/search.rt:39:9
 visit-row-slice-write-marks : (t : ℕ) → visit-row-lts.Need-slice-write-marks (
   most-wanting-reads.Asked,
   most-wanting-reads.Learnt,
@@ -455,7 +411,6 @@ visit-row-slice-write-marks : (t : ℕ) → visit-row-lts.Need-slice-write-marks
 ) (visit-row-at t) visit-row.Post visit-row-Inv-loop visit-row-μ-loop
 visit-row-slice-write-marks t c = let s = c .before .before .before .before .before .before .before .before .before .before in omega (arith, s .pre .1 .0 .cells, below (s .pre .1 .1) (c .before .if1 .taken), s .good)
 
--- src/search.rt:40:9
 visit-row-same-length : (t : ℕ) → visit-row-lts.Need-same-length (
   most-wanting-reads.Asked,
   most-wanting-reads.Learnt,
@@ -464,7 +419,6 @@ visit-row-same-length : (t : ℕ) → visit-row-lts.Need-same-length (
 ) (visit-row-at t) visit-row.Post visit-row-Inv-loop visit-row-μ-loop
 visit-row-same-length t c = simp length-set
 
--- src/search.rt:40:9
 visit-row-same-length-2 : (t : ℕ) → visit-row-lts.Need-same-length-2 (
   most-wanting-reads.Asked,
   most-wanting-reads.Learnt,
@@ -473,7 +427,6 @@ visit-row-same-length-2 : (t : ℕ) → visit-row-lts.Need-same-length-2 (
 ) (visit-row-at t) visit-row.Post visit-row-Inv-loop visit-row-μ-loop
 visit-row-same-length-2 t c = simp length-set
 
--- src/search.rt:40:9
 visit-row-same-length-3 : (t : ℕ) → visit-row-lts.Need-same-length-3 (
   most-wanting-reads.Asked,
   most-wanting-reads.Learnt,
@@ -482,7 +435,6 @@ visit-row-same-length-3 : (t : ℕ) → visit-row-lts.Need-same-length-3 (
 ) (visit-row-at t) visit-row.Post visit-row-Inv-loop visit-row-μ-loop
 visit-row-same-length-3 t c = simp length-set
 
--- src/search.rt:40:9
 visit-row-same-length-4 : (t : ℕ) → visit-row-lts.Need-same-length-4 (
   most-wanting-reads.Asked,
   most-wanting-reads.Learnt,
@@ -491,7 +443,6 @@ visit-row-same-length-4 : (t : ℕ) → visit-row-lts.Need-same-length-4 (
 ) (visit-row-at t) visit-row.Post visit-row-Inv-loop visit-row-μ-loop
 visit-row-same-length-4 t c = refl
 
--- src/search.rt:40:9
 visit-row-returns : (t : ℕ) → visit-row-lts.Need-returns (
   most-wanting-reads.Asked,
   most-wanting-reads.Learnt,
@@ -500,7 +451,6 @@ visit-row-returns : (t : ℕ) → visit-row-lts.Need-returns (
 ) (visit-row-at t) visit-row.Post visit-row-Inv-loop visit-row-μ-loop
 visit-row-returns t c = let s = c .before .before .before .before .before .before .before .before .before .before in row-now (s .args .i) (c .before .before .most-wanting .result) (s .pre .1 .0) (s .pre .1 .1) (s .pre .1 .2) (c .before .before .most-wanting .ensures) (c .before .if1 .taken) (set (s .args .rows .now) (s .args .i) 0)
 
--- src/search.rt:43:5
 visit-row-loop-holds : (t : ℕ) → visit-row-lts.Need-loop-holds (
   most-wanting-reads.Asked,
   most-wanting-reads.Learnt,
@@ -509,7 +459,6 @@ visit-row-loop-holds : (t : ℕ) → visit-row-lts.Need-loop-holds (
 ) (visit-row-at t) visit-row.Post visit-row-Inv-loop visit-row-μ-loop
 visit-row-loop-holds t c = let s = c .before .before .before .before .before .before .before .before .before in row-start (s .args .marks .now) (s .args .wants .now) (set (s .args .rows .now) (s .args .i) 0) (s .args .columns .now) (s .args .i) (length-set (s .args .rows .now) (s .args .i) 0) refl
 
--- src/search.rt:45:9
 visit-row-add-j : (t : ℕ) → visit-row-lts.Need-add-j (
   most-wanting-reads.Asked,
   most-wanting-reads.Learnt,
@@ -518,7 +467,6 @@ visit-row-add-j : (t : ℕ) → visit-row-lts.Need-add-j (
 ) (visit-row-at t) visit-row.Post visit-row-Inv-loop visit-row-μ-loop
 visit-row-add-j t c = omega arith
 
--- src/search.rt:46:12
 visit-row-mul-if2 : (t : ℕ) → visit-row-lts.Need-mul-if2 (
   most-wanting-reads.Asked,
   most-wanting-reads.Learnt,
@@ -527,7 +475,6 @@ visit-row-mul-if2 : (t : ℕ) → visit-row-lts.Need-mul-if2 (
 ) (visit-row-at t) visit-row.Post visit-row-Inv-loop visit-row-μ-loop
 visit-row-mul-if2 t c = omega arith
 
--- src/search.rt:46:12
 visit-row-slice-read-if2 : (t : ℕ) → visit-row-lts.Need-slice-read-if2 (
   most-wanting-reads.Asked,
   most-wanting-reads.Learnt,
@@ -536,7 +483,6 @@ visit-row-slice-read-if2 : (t : ℕ) → visit-row-lts.Need-slice-read-if2 (
 ) (visit-row-at t) visit-row.Post visit-row-Inv-loop visit-row-μ-loop
 visit-row-slice-read-if2 t c = omega arith
 
--- src/search.rt:47:22
 visit-row-mul-if3 : (t : ℕ) → visit-row-lts.Need-mul-if3 (
   most-wanting-reads.Asked,
   most-wanting-reads.Learnt,
@@ -545,7 +491,6 @@ visit-row-mul-if3 : (t : ℕ) → visit-row-lts.Need-mul-if3 (
 ) (visit-row-at t) visit-row.Post visit-row-Inv-loop visit-row-μ-loop
 visit-row-mul-if3 t c = omega (arith, row-cell t (c .before .before))
 
--- src/search.rt:47:22
 visit-row-add-if3 : (t : ℕ) → visit-row-lts.Need-add-if3 (
   most-wanting-reads.Asked,
   most-wanting-reads.Learnt,
@@ -554,7 +499,6 @@ visit-row-add-if3 : (t : ℕ) → visit-row-lts.Need-add-if3 (
 ) (visit-row-at t) visit-row.Post visit-row-Inv-loop visit-row-μ-loop
 visit-row-add-if3 t c = omega (arith, row-cell t (c .before .before))
 
--- src/search.rt:47:16
 visit-row-mul-if3-2 : (t : ℕ) → visit-row-lts.Need-mul-if3-2 (
   most-wanting-reads.Asked,
   most-wanting-reads.Learnt,
@@ -563,7 +507,6 @@ visit-row-mul-if3-2 : (t : ℕ) → visit-row-lts.Need-mul-if3-2 (
 ) (visit-row-at t) visit-row.Post visit-row-Inv-loop visit-row-μ-loop
 visit-row-mul-if3-2 t c = omega (arith, row-cell t (c .before .before))
 
--- src/search.rt:47:16
 visit-row-slice-read-if3 : (t : ℕ) → visit-row-lts.Need-slice-read-if3 (
   most-wanting-reads.Asked,
   most-wanting-reads.Learnt,
@@ -572,7 +515,6 @@ visit-row-slice-read-if3 : (t : ℕ) → visit-row-lts.Need-slice-read-if3 (
 ) (visit-row-at t) visit-row.Post visit-row-Inv-loop visit-row-μ-loop
 visit-row-slice-read-if3 t c = row-cell t (c .before .before .before) .0
 
--- src/search.rt:48:20
 visit-row-visit-column-requires : (t : ℕ) → visit-row-lts.Need-visit-column-requires (
   most-wanting-reads.Asked,
   most-wanting-reads.Learnt,
@@ -595,7 +537,6 @@ visit-row-visit-column-requires t c κs =
       ),
     )
 
--- src/search.rt:49:27
 visit-row-mul-marks-3 : (t : ℕ) → visit-row-lts.Need-mul-marks-3 (
   most-wanting-reads.Asked,
   most-wanting-reads.Learnt,
@@ -604,7 +545,6 @@ visit-row-mul-marks-3 : (t : ℕ) → visit-row-lts.Need-mul-marks-3 (
 ) (visit-row-at t) visit-row.Post visit-row-Inv-loop visit-row-μ-loop
 visit-row-mul-marks-3 t c = omega (arith, row-cell t (c .before .before .before .before .before .before .before .before .before .before .before .before .before .before .before .before .before .before))
 
--- src/search.rt:49:27
 visit-row-add-marks-2 : (t : ℕ) → visit-row-lts.Need-add-marks-2 (
   most-wanting-reads.Asked,
   most-wanting-reads.Learnt,
@@ -613,7 +553,6 @@ visit-row-add-marks-2 : (t : ℕ) → visit-row-lts.Need-add-marks-2 (
 ) (visit-row-at t) visit-row.Post visit-row-Inv-loop visit-row-μ-loop
 visit-row-add-marks-2 t c = omega (arith, row-cell t (c .before .before .before .before .before .before .before .before .before .before .before .before .before .before .before .before .before .before))
 
--- src/search.rt:49:21
 visit-row-mul-marks-4 : (t : ℕ) → visit-row-lts.Need-mul-marks-4 (
   most-wanting-reads.Asked,
   most-wanting-reads.Learnt,
@@ -622,7 +561,6 @@ visit-row-mul-marks-4 : (t : ℕ) → visit-row-lts.Need-mul-marks-4 (
 ) (visit-row-at t) visit-row.Post visit-row-Inv-loop visit-row-μ-loop
 visit-row-mul-marks-4 t c = omega (arith, row-cell t (c .before .before .before .before .before .before .before .before .before .before .before .before .before .before .before .before .before .before))
 
--- src/search.rt:49:21
 visit-row-slice-write-marks-2 : (t : ℕ) → visit-row-lts.Need-slice-write-marks-2 (
   most-wanting-reads.Asked,
   most-wanting-reads.Learnt,
@@ -631,7 +569,6 @@ visit-row-slice-write-marks-2 : (t : ℕ) → visit-row-lts.Need-slice-write-mar
 ) (visit-row-at t) visit-row.Post visit-row-Inv-loop visit-row-μ-loop
 visit-row-slice-write-marks-2 t c = omega (arith, row-cell t (c .before .before .before .before .before .before .before .before .before .before .before .before .before .before .before .before .before .before), c .before .before .before .before .before .before .before .before .before .visit-column .kept .0)
 
--- src/search.rt:50:21
 visit-row-same-length-5 : (t : ℕ) → visit-row-lts.Need-same-length-5 (
   most-wanting-reads.Asked,
   most-wanting-reads.Learnt,
@@ -640,7 +577,6 @@ visit-row-same-length-5 : (t : ℕ) → visit-row-lts.Need-same-length-5 (
 ) (visit-row-at t) visit-row.Post visit-row-Inv-loop visit-row-μ-loop
 visit-row-same-length-5 t c = simp length-set (c .before .before .before .before .before .before .before .before .before .visit-column .kept .0 ∙ ap length (c .before .before .before .before .before .before .before .before .before .before .before .before .before .before .before .before .before .before .before .loop .inv .0 .same))
 
--- src/search.rt:50:21
 visit-row-same-length-6 : (t : ℕ) → visit-row-lts.Need-same-length-6 (
   most-wanting-reads.Asked,
   most-wanting-reads.Learnt,
@@ -649,7 +585,6 @@ visit-row-same-length-6 : (t : ℕ) → visit-row-lts.Need-same-length-6 (
 ) (visit-row-at t) visit-row.Post visit-row-Inv-loop visit-row-μ-loop
 visit-row-same-length-6 t c = c .before .before .before .before .before .before .before .before .before .visit-column .kept .1 .0 ∙ ap length (c .before .before .before .before .before .before .before .before .before .before .before .before .before .before .before .before .before .before .before .loop .inv .0 .wants)
 
--- src/search.rt:50:21
 visit-row-same-length-7 : (t : ℕ) → visit-row-lts.Need-same-length-7 (
   most-wanting-reads.Asked,
   most-wanting-reads.Learnt,
@@ -658,7 +593,6 @@ visit-row-same-length-7 : (t : ℕ) → visit-row-lts.Need-same-length-7 (
 ) (visit-row-at t) visit-row.Post visit-row-Inv-loop visit-row-μ-loop
 visit-row-same-length-7 t c = c .before .before .before .before .before .before .before .before .before .visit-column .kept .1 .1 .0 ∙ c .before .before .before .before .before .before .before .before .before .before .before .before .before .before .before .before .before .before .before .loop .inv .0 .tall
 
--- src/search.rt:50:21
 visit-row-same-length-8 : (t : ℕ) → visit-row-lts.Need-same-length-8 (
   most-wanting-reads.Asked,
   most-wanting-reads.Learnt,
@@ -667,7 +601,6 @@ visit-row-same-length-8 : (t : ℕ) → visit-row-lts.Need-same-length-8 (
 ) (visit-row-at t) visit-row.Post visit-row-Inv-loop visit-row-μ-loop
 visit-row-same-length-8 t c = c .before .before .before .before .before .before .before .before .before .visit-column .kept .1 .1 .1 .0 ∙ c .before .before .before .before .before .before .before .before .before .before .before .before .before .before .before .before .before .before .before .loop .inv .0 .long
 
--- src/search.rt:50:21
 visit-row-returns-2 : (t : ℕ) → visit-row-lts.Need-returns-2 (
   most-wanting-reads.Asked,
   most-wanting-reads.Learnt,
@@ -680,7 +613,6 @@ visit-row-returns-2 t c =
     let v = c .before .before .before .before .before .before .before .before .before .visit-column in
     row-hit (s .args .rows .now) (s .args .i) (s .pre .1 .1) (s .pre .1 .2) (l .before .loop .j) (l .before .loop .inv) (v .result) (l .loop-test .taken) (omega (arith, row-cell t l, v .kept .0)) (c .before .before .before .before .before .before .before .before .before .before .before .before .before .before .if3 .taken) (c .before .before .before .before .before .before .before .before .before .before .before .before .before .before .before .before .if2 .taken) (v .ensures) (c .if4 .taken)
 
--- src/search.rt:43:5
 visit-row-loop-less : (t : ℕ) → visit-row-lts.Need-loop-less (
   most-wanting-reads.Asked,
   most-wanting-reads.Learnt,
@@ -689,7 +621,6 @@ visit-row-loop-less : (t : ℕ) → visit-row-lts.Need-loop-less (
 ) (visit-row-at t) visit-row.Post visit-row-Inv-loop visit-row-μ-loop
 visit-row-loop-less t c = omega arith
 
--- src/search.rt:43:5
 visit-row-loop-again : (t : ℕ) → visit-row-lts.Need-loop-again (
   most-wanting-reads.Asked,
   most-wanting-reads.Learnt,
@@ -701,7 +632,6 @@ visit-row-loop-again t c =
     let v = c .before .before .before .before .before .before .before .before .before .visit-column in
     row-miss (l .before .before .before .before .before .before .before .before .before .before .before .args .i) (l .before .loop .j) (l .before .loop .inv) (l .loop-test .taken) (v .result) (v .ensures) (c .if4 .left) (v .kept .1 .1 .0) (v .kept .1 .1 .1 .0)
 
--- src/search.rt:43:5
 visit-row-loop-less-2 : (t : ℕ) → visit-row-lts.Need-loop-less-2 (
   most-wanting-reads.Asked,
   most-wanting-reads.Learnt,
@@ -710,7 +640,6 @@ visit-row-loop-less-2 : (t : ℕ) → visit-row-lts.Need-loop-less-2 (
 ) (visit-row-at t) visit-row.Post visit-row-Inv-loop visit-row-μ-loop
 visit-row-loop-less-2 t c = omega arith
 
--- src/search.rt:43:5
 visit-row-loop-again-2 : (t : ℕ) → visit-row-lts.Need-loop-again-2 (
   most-wanting-reads.Asked,
   most-wanting-reads.Learnt,
@@ -719,7 +648,6 @@ visit-row-loop-again-2 : (t : ℕ) → visit-row-lts.Need-loop-again-2 (
 ) (visit-row-at t) visit-row.Post visit-row-Inv-loop visit-row-μ-loop
 visit-row-loop-again-2 t c = let l = c .before .before .before .before in row-skip (l .before .before .before .before .before .before .before .before .before .before .before .args .i) (l .before .loop .j) (l .before .loop .inv) (l .loop-test .taken) (λ e. absurd (c .if3 .left e))
 
--- src/search.rt:43:5
 visit-row-loop-less-3 : (t : ℕ) → visit-row-lts.Need-loop-less-3 (
   most-wanting-reads.Asked,
   most-wanting-reads.Learnt,
@@ -728,7 +656,6 @@ visit-row-loop-less-3 : (t : ℕ) → visit-row-lts.Need-loop-less-3 (
 ) (visit-row-at t) visit-row.Post visit-row-Inv-loop visit-row-μ-loop
 visit-row-loop-less-3 t c = omega arith
 
--- src/search.rt:43:5
 visit-row-loop-again-3 : (t : ℕ) → visit-row-lts.Need-loop-again-3 (
   most-wanting-reads.Asked,
   most-wanting-reads.Learnt,
@@ -737,7 +664,6 @@ visit-row-loop-again-3 : (t : ℕ) → visit-row-lts.Need-loop-again-3 (
 ) (visit-row-at t) visit-row.Post visit-row-Inv-loop visit-row-μ-loop
 visit-row-loop-again-3 t c = let l = c .before .before in row-skip (l .before .before .before .before .before .before .before .before .before .before .before .args .i) (l .before .loop .j) (l .before .loop .inv) (l .loop-test .taken) (λ e. omega arith)
 
--- src/search.rt:29:1
 visit-row-same-length-9 : (t : ℕ) → visit-row-lts.Need-same-length-9 (
   most-wanting-reads.Asked,
   most-wanting-reads.Learnt,
@@ -746,7 +672,6 @@ visit-row-same-length-9 : (t : ℕ) → visit-row-lts.Need-same-length-9 (
 ) (visit-row-at t) visit-row.Post visit-row-Inv-loop visit-row-μ-loop
 visit-row-same-length-9 t c = ap length (c .before .loop .inv .0 .same)
 
--- src/search.rt:29:1
 visit-row-same-length-10 : (t : ℕ) → visit-row-lts.Need-same-length-10 (
   most-wanting-reads.Asked,
   most-wanting-reads.Learnt,
@@ -755,7 +680,6 @@ visit-row-same-length-10 : (t : ℕ) → visit-row-lts.Need-same-length-10 (
 ) (visit-row-at t) visit-row.Post visit-row-Inv-loop visit-row-μ-loop
 visit-row-same-length-10 t c = ap length (c .before .loop .inv .0 .wants)
 
--- src/search.rt:29:1
 visit-row-same-length-11 : (t : ℕ) → visit-row-lts.Need-same-length-11 (
   most-wanting-reads.Asked,
   most-wanting-reads.Learnt,
@@ -764,7 +688,6 @@ visit-row-same-length-11 : (t : ℕ) → visit-row-lts.Need-same-length-11 (
 ) (visit-row-at t) visit-row.Post visit-row-Inv-loop visit-row-μ-loop
 visit-row-same-length-11 t c = c .before .loop .inv .0 .tall
 
--- src/search.rt:29:1
 visit-row-same-length-12 : (t : ℕ) → visit-row-lts.Need-same-length-12 (
   most-wanting-reads.Asked,
   most-wanting-reads.Learnt,
@@ -773,7 +696,6 @@ visit-row-same-length-12 : (t : ℕ) → visit-row-lts.Need-same-length-12 (
 ) (visit-row-at t) visit-row.Post visit-row-Inv-loop visit-row-μ-loop
 visit-row-same-length-12 t c = c .before .loop .inv .0 .long
 
--- src/search.rt:29:1
 visit-row-returns-3 : (t : ℕ) → visit-row-lts.Need-returns-3 (
   most-wanting-reads.Asked,
   most-wanting-reads.Learnt,

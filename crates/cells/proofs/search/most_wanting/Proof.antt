@@ -1,15 +1,9 @@
-use mathlib.Core.Path.{_≡_, refl}
-use Prim.Native.Nat.{ℕ, _+_, _*_, _≤_, _<_, _-_}
+use Prim.Native.Nat.{_-_}
 use native.Mathlib.Omega.{arith}
-use borrow.Author.Needs.{needs}
-use borrow.Author.Count.{below-none, below-more}
-use lib.ListN.{length, getD}
-use Rattle.cells.specs.Marks.{at}
-use Rattle.cells.specs.Visit.{Free, FreeInv, free-start, free-pass, free-better, free-end}
+use lib.ListN.{length}
+use Rattle.cells.specs.Visit.{FreeInv, free-start, free-pass, free-better, free-end}
 use Rattle.cells.proofs.search.most_wanting.Statement.{statement}
 use Rattle.cells.proofs.search.most_wanting.Tie as tie
-use Rattle.cells.proofs.search.most_wanting.Reads as reads
-use Rattle.cells.proofs.search.most_wanting.Lts as lts
 
 abbrev Inv-loop : tie.InvT-loop
 Inv-loop marks wc co i n base best₀ most₀ j₀ best most j = FreeInv (length co) marks wc co i best most j
@@ -17,87 +11,66 @@ Inv-loop marks wc co i n base best₀ most₀ j₀ best most j = FreeInv (length
 abbrev μ-loop : tie.MeasureT-loop
 μ-loop marks wc co i n base best₀ most₀ j₀ best most j = length co - j
 
--- src/search.rt:13:16
 mul-base : tie.Need-mul-base Inv-loop μ-loop
 mul-base c = omega arith
 
--- src/search.rt:17:5
 loop-holds : tie.Need-loop-holds Inv-loop μ-loop
 loop-holds c = free-start _ _ _ _ _
 
--- src/search.rt:19:9
 add-j : tie.Need-add-j Inv-loop μ-loop
 add-j c = omega arith
 
--- src/search.rt:20:12
 mul-if1 : tie.Need-mul-if1 Inv-loop μ-loop
 mul-if1 c = omega arith
 
--- src/search.rt:20:12
 shared-slice-read-if1 : tie.Need-shared-slice-read-if1 Inv-loop μ-loop
 shared-slice-read-if1 c = omega arith
 
--- src/search.rt:21:22
 add-if2 : tie.Need-add-if2 Inv-loop μ-loop
 add-if2 c = omega arith
 
--- src/search.rt:21:16
 mul-if2 : tie.Need-mul-if2 Inv-loop μ-loop
 mul-if2 c = omega arith
 
--- src/search.rt:21:16
 shared-slice-read-if2 : tie.Need-shared-slice-read-if2 Inv-loop μ-loop
 shared-slice-read-if2 c = omega arith
 
--- src/search.rt:22:20
 mul-if3 : tie.Need-mul-if3 Inv-loop μ-loop
 mul-if3 c = omega arith
 
--- src/search.rt:22:20
 shared-slice-read-if3 : tie.Need-shared-slice-read-if3 Inv-loop μ-loop
 shared-slice-read-if3 c = omega arith
 
--- src/search.rt:24:28
 mul-most : tie.Need-mul-most Inv-loop μ-loop
 mul-most c = omega arith
 
--- src/search.rt:24:28
 shared-slice-read-most : tie.Need-shared-slice-read-most Inv-loop μ-loop
 shared-slice-read-most c = omega arith
 
--- src/search.rt:17:5
 loop-less : tie.Need-loop-less Inv-loop μ-loop
 loop-less c = omega arith
 
--- src/search.rt:17:5
 loop-again : tie.Need-loop-again Inv-loop μ-loop
 loop-again c = free-better (c .before .before .before .before .before .before .before .before .loop .inv) (c .before .before .before .before .before .before .before .loop-test .taken) (c .before .before .before .before .before .if1 .taken) (c .before .before .before .if2 .taken) (c .before .if3 .taken)
 
--- src/search.rt:17:5
 loop-less-2 : tie.Need-loop-less-2 Inv-loop μ-loop
 loop-less-2 c = omega arith
 
--- src/search.rt:17:5
 loop-again-2 : tie.Need-loop-again-2 Inv-loop μ-loop
 loop-again-2 c = free-pass (c .before .before .before .before .before .before .before .loop .inv) (c .before .before .before .before .before .before .loop-test .taken) (λ e o. absurd (omega (arith, c .if3 .left)))
 
--- src/search.rt:17:5
 loop-less-3 : tie.Need-loop-less-3 Inv-loop μ-loop
 loop-less-3 c = omega arith
 
--- src/search.rt:17:5
 loop-again-3 : tie.Need-loop-again-3 Inv-loop μ-loop
 loop-again-3 c = free-pass (c .before .before .before .before .before .loop .inv) (c .before .before .before .before .loop-test .taken) (λ e o. absurd (c .if2 .left e))
 
--- src/search.rt:17:5
 loop-less-4 : tie.Need-loop-less-4 Inv-loop μ-loop
 loop-less-4 c = omega arith
 
--- src/search.rt:17:5
 loop-again-4 : tie.Need-loop-again-4 Inv-loop μ-loop
 loop-again-4 c = free-pass (c .before .before .before .loop .inv) (c .before .before .loop-test .taken) (λ e o. c .if1 .left)
 
--- src/search.rt:8:1
 returns : tie.Need-returns Inv-loop μ-loop
 returns c = free-end (c .before .loop .inv) (c .loop-test .left)
 

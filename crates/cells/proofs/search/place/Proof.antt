@@ -1,17 +1,12 @@
-use mathlib.Core.Path.{_≡_, refl, sym, ap, ap₂, _∙_}
-use mathlib.Core.List.{List}
-use Prim.Native.Nat.{ℕ, _+_, _*_, _≤_, _<_, _-_}
+use mathlib.Core.Path.{sym, ap₂, _∙_}
+use Prim.Native.Nat.{ℕ, _+_, _*_, _-_}
 use native.Mathlib.Omega.{arith}
 use borrow.Author.Needs.{needs}
-use lib.ListN.{length, getD, set, replicate, length-set, length-replicate, getD-replicate}
+use lib.ListN.{length, getD, getD-replicate}
 use Rattle.ints.specs.NatSums.{total, total-set}
 use Rattle.cells.specs.Place.{Going, going-start, going-past, going-on, going-end}
 use Rattle.cells.proofs.search.place.Statement.{statement}
 use Rattle.cells.proofs.search.place.Tie as tie
-use Rattle.cells.proofs.search.place.Reads as reads
-use Rattle.cells.proofs.search.place.Lts as lts
-use Rattle.cells.proofs.search.reopen.Reads as reopen-reads
-use Rattle.cells.proofs.search.visit_row.Reads as visit-row-reads
 
 abbrev Inv-loop : tie.InvT-loop
 Inv-loop marks₀ wr₀ wc₀ ro₀ co₀ m n i₀ marks wr wc ro co i = Going m n marks₀ wr₀ wc₀ marks wr wc ro co i
@@ -19,27 +14,21 @@ Inv-loop marks₀ wr₀ wc₀ ro₀ co₀ m n i₀ marks wr wc ro co i = Going m
 abbrev μ-loop : tie.MeasureT-loop
 μ-loop marks₀ wr₀ wc₀ ro₀ co₀ m n i₀ marks wr wc ro co i = m - i + total wr
 
--- src/search.rt:102:5
 loop-holds : tie.Need-loop-holds Inv-loop μ-loop
 loop-holds c = let s = c .before .before .before .before .before .args in going-start (s .marks .now) (s .lacks .now) (s .wants .now) (s .rows .now) (s .columns .now)
 
--- src/search.rt:103:12
 mul-if1 : tie.Need-mul-if1 Inv-loop μ-loop
 mul-if1 c = omega arith
 
--- src/search.rt:103:12
 slice-read-if1 : tie.Need-slice-read-if1 Inv-loop μ-loop
 slice-read-if1 c = omega (arith, c .before .before .loop .inv .kept .tall, c .before .before .before .before .before .before .before .before .pre .tall)
 
--- src/search.rt:104:13
 reopen-requires : tie.Need-reopen-requires Inv-loop μ-loop
 reopen-requires c κs = search needs
 
--- src/search.rt:105:13
 reopen-requires-2 : tie.Need-reopen-requires-2 Inv-loop μ-loop
 reopen-requires-2 c κs = search needs
 
--- src/search.rt:106:13
 visit-row-requires : tie.Need-visit-row-requires Inv-loop μ-loop
 visit-row-requires c κs =
     let l = c .before .before .before .before .before .before .before .before .before .before .before .before .before .before in
@@ -55,27 +44,21 @@ visit-row-requires c κs =
       rw (r .ensures) (omega (arith, getD-replicate {A = ℕ} (length (l .before .loop .rows)) (l .before .loop .i) 1 0 (omega (arith, g .tall)))),
     )
 
--- src/search.rt:107:13
 mul-lacks : tie.Need-mul-lacks Inv-loop μ-loop
 mul-lacks c = omega (arith, c .before .before .before .before .before .before .before .before .before .before .before .before .before .before .before .before .before .before .before .before .before .before .before, c .before .before .before .before .before .before .before .before .before .before .before .before .before .before .before .before .before .before .before .before .before .before .before .before .before .before .before .before .before .before .good)
 
--- src/search.rt:107:13
 slice-read-lacks : tie.Need-slice-read-lacks Inv-loop μ-loop
 slice-read-lacks c = omega (arith, c .before .before .before .before .before .before .before .before .before .before .before .before .before .before .before .before .before .before .before .before .before .before .before .before .loop-test .taken, c .before .before .before .before .before .before .before .before .before .before .before .before .before .before .before .before .before .before .before .before .before .before .before .before .before .loop .inv .kept .tall, c .before .before .before .before .before .before .before .before .before .before .before .before .before .before .before .before .before .before .before .before .before .before .before .before .before .before .before .before .before .before .before .pre .tall)
 
--- src/search.rt:107:13
 sub-lacks : tie.Need-sub-lacks Inv-loop μ-loop
 sub-lacks c = c .before .before .before .before .before .before .before .before .before .before .before .before .before .before .before .before .before .before .before .before .before .before .if1 .taken
 
--- src/search.rt:107:13
 slice-write-lacks : tie.Need-slice-write-lacks Inv-loop μ-loop
 slice-write-lacks c = omega (arith, c .before .before .before .before .before .before .before .before .before .before .before .before .before .before .before .before .before .before .before .before .before .before .before .before .loop-test .taken, c .before .before .before .before .before .before .before .before .before .before .before .before .before .before .before .before .before .before .before .before .before .before .before .before .before .loop .inv .kept .tall, c .before .before .before .before .before .before .before .before .before .before .before .before .before .before .before .before .before .before .before .before .before .before .before .before .before .before .before .before .before .before .before .pre .tall)
 
--- src/search.rt:102:5
 loop-less : tie.Need-loop-less Inv-loop μ-loop
 loop-less c = let l = c .before .before .before .before .before .before .before .before .before .before .before .before .before .before .before .before .before .before .before .before .before .before .before .before .before .loop in omega (arith, c .before .before .before .before .before .before .before .before .before .before .before .before .before .before .before .before .before .before .before .before .before .before .if1 .taken, total-set (l .lacks) (l .i) (getD (l .lacks) (l .i) 0 - 1) (omega (arith, c .before .before .before .before .before .before .before .before .before .before .before .before .before .before .before .before .before .before .before .before .before .before .before .before .loop-test .taken, c .before .before .before .before .before .before .before .before .before .before .before .before .before .before .before .before .before .before .before .before .before .before .before .before .before .loop .inv .kept .tall, c .before .before .before .before .before .before .before .before .before .before .before .before .before .before .before .before .before .before .before .before .before .before .before .before .before .before .before .before .before .before .before .pre .tall)))
 
--- src/search.rt:102:5
 loop-again : tie.Need-loop-again Inv-loop μ-loop
 loop-again c =
     let l = c .before .before .before .before .before .before .before .before .before .before .before .before .before .before .before .before .before .before .before .before .before .before .before .before in
@@ -85,39 +68,30 @@ loop-again c =
     let o = c .before .before .before .before .before .before .before .before .before .before .before .before .before .before .before .before .reopen2 in
     going-on (l .before .loop .inv) (p .feasible) (p .small) (l .loop-test .taken) (omega (arith, c .before .before .before .before .before .before .before .before .before .before .before .before .before .before .before .before .before .before .before .before .before .before .before .before .loop-test .taken, c .before .before .before .before .before .before .before .before .before .before .before .before .before .before .before .before .before .before .before .before .before .before .before .before .before .loop .inv .kept .tall, c .before .before .before .before .before .before .before .before .before .before .before .before .before .before .before .before .before .before .before .before .before .before .before .before .before .before .before .before .before .before .before .pre .tall)) (c .before .before .before .before .before .before .before .before .before .before .before .before .before .before .before .before .before .before .before .before .before .before .if1 .taken) (r .kept .0) (o .kept .0) (r .ensures) (o .ensures) (v .result) (v .ensures) (v .kept .0) (v .kept .1 .0) (v .kept .1 .1 .0) (v .kept .1 .1 .1 .0)
 
--- src/search.rt:109:13
 add-i : tie.Need-add-i Inv-loop μ-loop
 add-i c = omega arith
 
--- src/search.rt:102:5
 loop-less-2 : tie.Need-loop-less-2 Inv-loop μ-loop
 loop-less-2 c = omega arith
 
--- src/search.rt:102:5
 loop-again-2 : tie.Need-loop-again-2 Inv-loop μ-loop
 loop-again-2 c = going-past (c .before .before .before .loop .inv) (c .before .before .loop-test .taken) (omega arith)
 
--- src/search.rt:95:1
 same-length : tie.Need-same-length Inv-loop μ-loop
 same-length c = c .before .loop .inv .kept .cells
 
--- src/search.rt:95:1
 same-length-2 : tie.Need-same-length-2 Inv-loop μ-loop
 same-length-2 c = c .before .loop .inv .kept .tall
 
--- src/search.rt:95:1
 same-length-3 : tie.Need-same-length-3 Inv-loop μ-loop
 same-length-3 c = c .before .loop .inv .kept .wide
 
--- src/search.rt:95:1
 same-length-4 : tie.Need-same-length-4 Inv-loop μ-loop
 same-length-4 c = c .before .loop .inv .tall
 
--- src/search.rt:95:1
 same-length-5 : tie.Need-same-length-5 Inv-loop μ-loop
 same-length-5 c = c .before .loop .inv .long
 
--- src/search.rt:95:1
 returns : tie.Need-returns Inv-loop μ-loop
 returns c = going-end (c .before .loop .inv) (c .before .before .before .before .before .before .before .pre .feasible) (c .loop-test .left)
 

@@ -1,14 +1,11 @@
-use mathlib.Core.Path.{_≡_, refl, sym, ap, _∙_}
+use mathlib.Core.Path.{_≡_, refl, ap, _∙_}
 use mathlib.Core.List.{List, _++_, append-nil}
-use Prim.Native.Nat.{ℕ, _+_, _*_, _≤_, _<_, _-_}
+use Prim.Native.Nat.{ℕ, _+_, _≤_, _-_}
 use native.Mathlib.Omega.{arith}
-use native.Mathlib.Nat.{le-antisymm}
-use borrow.Author.Fill.{fill-none, fill-more}
-use lib.ListN.{length, getD, set, drop, replicate, length-set, drop-of-length-le}
+use borrow.Author.Fill.{fill-more}
+use lib.ListN.{length, drop, replicate, length-set, drop-of-length-le}
 use Rattle.cells.proofs.search.reopen.Statement.{statement}
 use Rattle.cells.proofs.search.reopen.Tie as tie
-use Rattle.cells.proofs.search.reopen.Reads as reads
-use Rattle.cells.proofs.search.reopen.Lts as lts
 
 abbrev Inv-loop : tie.InvT-loop
 Inv-loop s₀ i₀ s i = (i ≤ length s₀) × (length s ≡ length s₀) × (s ≡ replicate i 1 ++ drop i s₀)
@@ -16,37 +13,29 @@ Inv-loop s₀ i₀ s i = (i ≤ length s₀) × (length s ≡ length s₀) × (s
 abbrev μ-loop : tie.MeasureT-loop
 μ-loop s₀ i₀ s i = length s₀ - i
 
--- src/search.rt:88:5
 loop-holds : tie.Need-loop-holds Inv-loop μ-loop
 loop-holds c = (omega arith, refl, refl)
 
--- src/search.rt:89:9
 mul-all : tie.Need-mul-all Inv-loop μ-loop
 mul-all c = omega arith
 
--- src/search.rt:89:9
 slice-write-all : tie.Need-slice-write-all Inv-loop μ-loop
 slice-write-all c = omega arith
 
--- src/search.rt:90:9
 add-i : tie.Need-add-i Inv-loop μ-loop
 add-i c = omega arith
 
--- src/search.rt:88:5
 loop-less : tie.Need-loop-less Inv-loop μ-loop
 loop-less c = omega arith
 
--- src/search.rt:88:5
 loop-again : tie.Need-loop-again Inv-loop μ-loop
 loop-again c =
     let l = c .before .loop in
     (omega arith, length-set (l .all) (l .i) 1 ∙ l .inv .1, rw (l .inv .2) (fill-more (l .i) 1 _ (omega arith)))
 
--- src/search.rt:84:1
 same-length : tie.Need-same-length Inv-loop μ-loop
 same-length c = c .before .loop .inv .1
 
--- src/search.rt:84:1
 returns : tie.Need-returns Inv-loop μ-loop
 returns c =
     let l = c .before .loop in
