@@ -1,13 +1,16 @@
--- The cut: where the search of a wanting row has come to its end, no row that it reached wants a mark.
--- A cell's state s is 0 (whole), 1 (broken, not marked) or 2 (marked), so that its mark is s - 1. A set of rows, or of columns, is given by
--- a function that is 0 on the set's members.
-use mathlib.Core.Path.{_≡_, refl, sym, ap, ap₂, _∙_}
-use Prim.Native.Nat.{ℕ, zero, suc, _+_, _*_, _-_, _≤_, _<_, zero-le}
+-- The cut: a search that has come to its end contradicts the totals. Let y be whole numbers from 0 to a cap, 0 on whole cells, whose rows
+-- total cap · k and whose columns cap · c. If no step leads out of the rows R and the columns C, the columns of C have all the marks that
+-- they want and the rows of R no more than theirs, then every row of R has all its marks (`cut-rows`) and every column of C no more than
+-- its own (`cut-columns`). With y the remainders and cap ΣVD this is why a table of cells always exists; with y another table's marks and
+-- cap 1 it compares tables.
+-- A cell's state s is 0 (whole), 1 (broken) or 2 (broken and marked), so that its mark is s − 1. A set is a function that is 0 on its members.
+use mathlib.Core.Path.{_≡_, refl, ap, _∙_}
+use Prim.Native.Nat.{ℕ, zero, suc, _+_, _*_, _-_, _≤_, _<_}
 use native.Mathlib.Omega.{arith}
-use native.Mathlib.Nat.{mul-le-mul-left, le-of-mul-le-mul-left, mul-one, mul-zero, zero-mul, one-mul}
+use native.Mathlib.Nat.{mul-le-mul-left, le-of-mul-le-mul-left, mul-zero}
 use Rattle.ints.specs.NatSums.{Σ, Σ-ext, Σ-mono, Σ-add, Σ-scale, Σ-scale2, Σ-swap, Σ-same}
 
--- y is a table that is 0 on whole cells and nowhere above cap; its rows total cap times k, its columns cap times c
+-- y is 0 on whole cells and nowhere above cap; its rows total cap · k, its columns cap · c
 pub record Witness (m n cap : ℕ) (s y : ℕ → ℕ → ℕ) (k c : ℕ → ℕ) : Type 0 where
   pub some : 0 < cap
   pub most : (i j : ℕ) → i < m → j < n → y i j ≤ cap
@@ -25,7 +28,7 @@ abbrev in? : ℕ → ℕ
 in? zero = 1
 in? (suc n) = 0
 
--- a cell: r, g say whether its row and its column are out
+-- for one cell, with r and g for its row and its column: [r ∈ R] · y + [g ∈ C] · cap · mark ≤ [g ∈ C] · y + [r ∈ R] · cap · mark
 cell : (r g s y cap : ℕ) → s ≤ 2 → y ≤ cap → (s ≡ 0 → y ≡ 0) → (r ≡ 0 → s ≡ 1 → g ≡ 0) → (g ≡ 0 → s ≡ 2 → r ≡ 0) → in? r * y + in? g * (cap * (s - 1)) ≤ in? g * y + in? r * (cap * (s - 1))
 cell zero zero s y cap a b c d e = omega arith
 cell (suc r) (suc g) s y cap a b c d e = omega arith
@@ -90,13 +93,20 @@ module _ (m n cap : ℕ) (s y : ℕ → ℕ → ℕ) (k c R C : ℕ → ℕ) (W 
       split f g = Σ-ext m _ _ (λ i h. Σ-add n (f i) (g i)) ∙ Σ-add m _ _
 
   -- each member row has all its marks
-  pub cut : (i : ℕ) → i < m → R i ≡ 0 → Σ n (λ j. s i j - 1) ≡ k i
-  cut i h e =
+  pub cut-rows : (i : ℕ) → i < m → R i ≡ 0 → Σ n (λ j. s i j - 1) ≡ k i
+  cut-rows i h e =
       equal (R i) cap (W .some) e (most i h e)
       (Σ-same m _ _ most-in (omega (arith, both, wanted, had, col-wanted, col-had, Σ-mono n _ _ full-in)) i h)
 
   -- and each member column no more than its own
-  pub cut-col : (j : ℕ) → j < n → C j ≡ 0 → c j ≡ Σ m (λ i. s i j - 1)
-  cut-col j h e =
+  pub cut-columns : (j : ℕ) → j < n → C j ≡ 0 → c j ≡ Σ m (λ i. s i j - 1)
+  cut-columns j h e =
       equal (C j) cap (W .some) e (full j h e)
       (Σ-same n _ _ full-in (omega (arith, both, wanted, had, col-wanted, col-had, Σ-mono m _ _ most-in)) j h)
+
+  -- so a row of R that lacks a mark, or a column of C with one too many, is a contradiction
+  pub no-row-lacks : (i : ℕ) → i < m → R i ≡ 0 → Σ n (λ j. s i j - 1) < k i → ⊥
+  no-row-lacks i h e l = omega (arith, cut-rows i h e, l)
+
+  pub no-column-over : (j : ℕ) → j < n → C j ≡ 0 → c j < Σ m (λ i. s i j - 1) → ⊥
+  no-column-over j h e l = omega (arith, cut-columns j h e, l)

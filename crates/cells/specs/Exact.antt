@@ -1,13 +1,13 @@
 -- From exact values to marks. The value of cell (i, j) is vc i · vd j / w, where w is the sum of vd and of vc; q is its floor and r what
 -- is left over. What the floors leave of a row's or a column's total is a natural number of marks, and r is the table of whole numbers
 -- below w which shows that so many can be placed.
-use mathlib.Core.Path.{_≡_, refl, sym, ap, ap₂, _∙_}
+use mathlib.Core.Path.{_≡_, sym, ap, ap₂, _∙_}
 use mathlib.Core.List.{List}
-use Prim.Native.Nat.{ℕ, zero, suc, _+_, _*_, _-_, _≤_, _<_}
+use Prim.Native.Nat.{ℕ, _+_, _*_, _-_, _≤_, _<_}
 use native.Mathlib.Omega.{arith}
 use mathlib.Core.Logic.{⊎-elim}
 use native.Mathlib.Nat.{le-of-mul-le-mul-right, mul-le-mul-right}
-use lib.ListN.{length, getD}
+use lib.ListN.{getD}
 use lib.IntN.{ℤ, pos, _+ℤ_, _*ℤ_}
 use Rattle.ints.specs.Bridge.{up, dn, za, add#, mul#, eq-in}
 use Rattle.ints.specs.Ring.{all2, diff}

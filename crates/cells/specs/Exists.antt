@@ -3,12 +3,12 @@
 use mathlib.Core.Path.{_≡_, refl, sym, ap, _∙_, subst}
 use mathlib.Core.List.{List, [], _∷_}
 use mathlib.Core.Logic.{⊎-elim}
-use Prim.Native.Nat.{ℕ, zero, suc, _+_, _*_, _-_, _/_, _%_, _≤_, _<_, min, zero-le, suc-le-suc}
+use Prim.Native.Nat.{ℕ, zero, suc, _+_, _*_, _-_, _/_, _%_, _≤_, _<_, min}
 use native.Mathlib.Omega.{arith}
 use native.Mathlib.Nat.{not-suc-le-zero, le-of-suc-le-suc, div-add-mod', mod-lt}
 use lib.ListN.{length, getD, List·getD-eq-default}
 use lib.Arith.{digits-div, digits-mod}
-use lib.IntN.{ℤ, pos, _+ℤ_, _*ℤ_}
+use lib.IntN.{ℤ, pos, _+ℤ_}
 use lib.Signed.{_≤ℤ_}
 use Rattle.ints.specs.Bridge.{za, eq-in}
 use Rattle.ints.specs.NatSums.{Σ, Σ-ext, le-or-lt}
@@ -17,7 +17,7 @@ use Rattle.rules.specs.Table.{Table}
 use Rattle.cells.specs.Marks.{at, below}
 use Rattle.cells.specs.Exact.{feasible, row-line, col-line, want-is}
 use Rattle.cells.specs.Naturals.{NonNegative, debitAt, debit-is, sum-is}
-use Rattle.cells.specs.Floors.{Balanced, Floored, creditOf, debitOf, quotOf, restOf, exact, Spot, spot}
+use Rattle.cells.specs.Floors.{Balanced, Floored, debitOf, quotOf, restOf, exact, Spot, spot}
 use Rattle.cells.specs.Finish.{table}
 use Rattle.cells.specs.Search.{AllPlaced, all-placed}
 

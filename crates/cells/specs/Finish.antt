@@ -1,8 +1,7 @@
 -- What `fill` asks, and how marks added to floors make the table of paper 01.
 use mathlib.Core.Path.{_≡_, refl, sym, ap, ap₂, _∙_, subst}
-use mathlib.Core.Logic.{_≢_}
 use mathlib.Core.List.{List}
-use Prim.Native.Nat.{ℕ, zero, suc, _+_, _*_, _-_, _/_, _%_, _≤_, _<_, _^_, min}
+use Prim.Native.Nat.{ℕ, zero, suc, _+_, _*_, _-_, _/_, _%_, _≤_, _<_, min}
 use native.Mathlib.Omega.{arith}
 use native.Mathlib.Nat.{zero-add}
 use lib.ListN.{length, getD, take, replicate, length-take, length-replicate}
@@ -13,19 +12,17 @@ use mir.Val.{SFits}
 use Rattle.ints.specs.Bridge.{abs, za, add#, eq-in}
 use Rattle.ints.specs.Floor.{floor, floor-is, share-small}
 use Rattle.ints.specs.NatSums.{Σ, Σ-ext}
-use Rattle.ints.specs.Rest.{Split, rest-split}
+use Rattle.ints.specs.Rest.{Split}
 use Rattle.ints.specs.Sums as ℤs
 use Rattle.ints.specs.Sums.{sumℤ, Σ<, Small, sum-end, Σ-list, Σ-add, Σ-pos}
 use Rattle.rules.specs.Table.{Cell, rounded-down, rounded-up, cellAt, Table}
-use Rattle.cells.specs.Marks.{at, row, col, below, Kind, kind-then}
-use Rattle.cells.specs.Visit.{Shape}
-use Rattle.cells.specs.Kept.{Kept, Feasible, still}
+use Rattle.cells.specs.Marks.{at, row, col, below, kind-then}
+use Rattle.cells.specs.Kept.{Kept, still}
 use Rattle.cells.specs.Place.{Wanted, Placed}
-use Rattle.cells.specs.Exact.{Left, feasible, row-none, col-none}
+use Rattle.cells.specs.Exact.{feasible, row-none, col-none}
 use Rattle.cells.specs.Fill.{Filled}
 use Rattle.cells.specs.Naturals.{NonNegative, debitAt, debit-is, sum-is, Unsigned, Naturals}
-use Rattle.cells.specs.Rows.{quotAt, restAt}
-use Rattle.cells.specs.Floors.{Balanced, Given, Floored, Place, creditOf, debitOf, quotOf, restOf, exact, parts, spot}
+use Rattle.cells.specs.Floors.{Balanced, Given, Floored, creditOf, debitOf, quotOf, restOf, exact, parts, spot}
 
 -- ---- the premises: what a closing can show of its credits and debits
 pub record Fillable (vc vd : List ℤ) : Type 0 where

@@ -1,16 +1,16 @@
 -- Debits as naturals: none is negative, so nothing is lost.
-use mathlib.Core.Path.{_≡_, refl, sym, ap, ap₂, _∙_}
+use mathlib.Core.Path.{_≡_, refl, sym, _∙_}
 use mathlib.Core.List.{List}
-use Prim.Native.Nat.{ℕ, zero, suc, _+_, _*_, _≤_, _<_, _^_}
+use Prim.Native.Nat.{ℕ, suc, _+_, _≤_, _<_}
 use native.Mathlib.Omega.{arith}
 use native.Mathlib.Nat.{zero-add}
 use native.Mathlib.Numerals.{add-one}
-use lib.ListN.{length, getD, set, take}
-use lib.IntN.{ℤ, pos, _+ℤ_}
+use lib.ListN.{length, getD, set}
+use lib.IntN.{ℤ, pos}
 use lib.Signed.{_≤ℤ_}
-use Rattle.ints.specs.Bridge.{up, dn, za}
+use Rattle.ints.specs.Bridge.{up, za}
 use Rattle.ints.specs.NatSums.{Σ, Σ-upto}
-use Rattle.ints.specs.Sums.{sumℤ, sum-end, Σ<, Σ-ext, Σ-list, Σ-pos}
+use Rattle.ints.specs.Sums.{sumℤ, sum-end, Σ-ext, Σ-list, Σ-pos}
 use Rattle.cells.specs.Fill.{Filled, filled-none, filled-more}
 
 abbrev pub debitAt : List ℤ → ℕ → ℕ

@@ -1,20 +1,18 @@
 -- The driver: every row gets the marks that it wants, and so does every column, wherever some table of numbers (Feasible) says that this can be.
-use mathlib.Core.Path.{_≡_, refl, sym, ap, ap₂, _∙_, subst}
+use mathlib.Core.Path.{_≡_, refl, sym, ap, _∙_}
 use mathlib.Core.Bool.{Bool, true, false}
 use mathlib.Core.List.{List}
-use Prim.Native.Nat.{ℕ, zero, suc, _+_, _*_, _-_, _≤_, _<_, min}
+use Prim.Native.Nat.{ℕ, _+_, _*_, _-_, _≤_, _<_}
 use native.Mathlib.Omega.{arith}
-use native.Mathlib.Decide.{ℕ-discrete}
 use native.Mathlib.Nat.{le-of-mul-le-mul-left}
 use borrow.Author.Count.{below-none, below-more}
 use lib.ListN.{length, getD, set, length-set, replicate, getD-replicate}
-use lib.Seq.{getD-set-same, getD-set-other}
-use Rattle.ints.specs.NatSums.{Σ, Σ-ext, Σ-mono, Σ-add, Σ-scale, Σ-swap, Σ-same, total, total-set}
-use Rattle.cells.specs.Cut.{Closed, cut}
+use lib.Seq.{getD-set-other}
+use Rattle.ints.specs.NatSums.{Σ, Σ-ext, Σ-scale, Σ-swap, Σ-same}
+use Rattle.cells.specs.Cut.{cut-rows}
 use Rattle.cells.specs.Marks.{at, row, col, one, Kind}
 use Rattle.cells.specs.Kept.{Feasible, still, Kept, kept-none, kept-then, less-one}
 use Rattle.cells.specs.Visit.{Shape, Shut, Moved, RowVisited}
-use Rattle.cells.specs.Turns.{true-false}
 
 -- what the driver is given, and what it leaves
 pub record Wanted (xs wr wc ro co : List ℕ) : Type 0 where
@@ -33,7 +31,7 @@ pub never : {m n : ℕ} {xs wr wc ro co ro′ co′ : List ℕ} → Feasible m n
 unfolding row col
 never {m} {n} {xs} {wr} {wc} {ro} {co} {ro′} {co′} F small o o′ S i hi z w =
     let e : row n xs i ≡ row n xs i + getD wr i 0 =
-    cut m n (F .cap) (λ i j. at n xs i j) (F .y) (λ i. row n xs i + getD wr i 0) (λ j. col m n xs j + getD wc j 0) (λ i. getD ro′ i 0) (λ j. getD co′ j 0) (F .witness)
+    cut-rows m n (F .cap) (λ i j. at n xs i j) (F .y) (λ i. row n xs i + getD wr i 0) (λ j. col m n xs j + getD wc j 0) (λ i. getD ro′ i 0) (λ j. getD co′ j 0) (F .witness)
     (record { row = λ i j h k. S .row i j h k (o i h); col = λ i j h k. S .col i j h k (o′ j k) })
     (λ i j h k. small (i * n + j))
     (λ j h e. omega (arith, S .full j h (o′ j h) e))

@@ -1,11 +1,9 @@
 -- One row's floors: its cells, which of them are broken, the remainders added to the columns' sums, and the row's own sum.
 -- A sum of remainders is kept as a number of whole multiples of w and what is left, which is below w.
-use mathlib.Core.Path.{_≡_, refl, sym, ap, _∙_}
+use mathlib.Core.Path.{_≡_, refl, ap, _∙_}
 use mathlib.Core.List.{List}
-use Prim.Native.Nat.{ℕ, zero, suc, _+_, _*_, _-_, _≤_, _<_, _^_, min}
+use Prim.Native.Nat.{ℕ, _+_, _*_, _-_, _≤_, _<_, min}
 use native.Mathlib.Omega.{arith}
-use native.Mathlib.Decide.{ℕ-discrete}
-use native.Mathlib.Nat.{zero-add, mul-le-mul-right, le-of-mul-le-mul-right}
 use native.Mathlib.Numerals.{add-one}
 use borrow.Author.Count.{below-none, below-more}
 use lib.ListN.{length, getD, set, length-set}
@@ -13,7 +11,7 @@ use lib.Seq.{getD-set-same, getD-set-other}
 use lib.IntN.{ℤ, pos, _*ℤ_}
 use Rattle.ints.specs.Bridge.{abs}
 use Rattle.ints.specs.Floor.{floor}
-use Rattle.ints.specs.NatSums.{Σ, Σ-most}
+use Rattle.ints.specs.NatSums.{Σ}
 use Rattle.ints.specs.Rest.{rest, rest-split}
 use Rattle.cells.specs.Fill.{Filled, filled-none, filled-more}
 

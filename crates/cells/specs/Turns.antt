@@ -1,16 +1,15 @@
 -- The loops of the two visits. A visit of row i begins with ro at i set to 0, and goes through the columns; a visit of column j goes through the rows.
 -- Unprimed lists are those at the visit's entry, primed ones those at the loop's head.
-use mathlib.Core.Path.{_≡_, refl, sym, ap, _∙_, subst}
+use mathlib.Core.Path.{_≡_, refl, sym, _∙_}
 use mathlib.Core.Bool.{Bool, true, false}
 use mathlib.Core.List.{List}
-use mathlib.Core.Logic.{_⊎_, inl, inr, ⊎-elim}
 use Prim.Native.Nat.{ℕ, zero, suc, _+_, _*_, _-_, _≤_, _<_}
 use native.Mathlib.Omega.{arith}
 use borrow.Author.Count.{below-none, below-more}
-use lib.ListN.{length, getD, set, length-set}
+use lib.ListN.{length, getD, set}
 use Rattle.ints.specs.NatSums.{total, total-set}
 use Rattle.cells.specs.Marks.{at, below}
-use Rattle.cells.specs.Visit.{Shut, shut-none, shut-then, row-end, col-end, row-take, row-turn, col-turn, Visited, RowVisited, ColVisited, Shape, Free}
+use Rattle.cells.specs.Visit.{Shut, shut-none, shut-then, row-end, col-end, row-take, row-turn, col-turn, RowVisited, ColVisited, Shape, Free}
 
 -- ---- nothing has changed but that more is visited, and that is shut; Done says what has been gone through
 pub record Turn (m n : ℕ) (xs wc ro co xs′ wc′ ro′ co′ : List ℕ) : Type 0 where

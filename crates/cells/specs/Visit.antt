@@ -1,17 +1,17 @@
 -- The search: what a visit of a row, or of a column, has done where it found a column that wants a mark, and where it found none.
 -- ro and co hold, of each row and column, a number above 0 while it is open, and 0 once it was visited. wc holds the marks that each column still wants.
-use mathlib.Core.Path.{_≡_, refl, sym, ap, _∙_, subst}
+use mathlib.Core.Path.{_≡_, refl, sym, ap, _∙_}
 use mathlib.Core.Bool.{Bool, true, false}
 use mathlib.Core.List.{List}
 use mathlib.Core.Logic.{_⊎_, inl, inr, ⊎-elim}
-use Prim.Native.Nat.{ℕ, zero, suc, _+_, _*_, _-_, _≤_, _<_, min}
+use Prim.Native.Nat.{ℕ, zero, suc, _+_, _*_, _-_, _≤_, _<_}
 use native.Mathlib.Omega.{arith}
 use native.Mathlib.Decide.{ℕ-discrete}
 use borrow.Author.Count.{below-none, below-more}
-use lib.ListN.{length, getD, set, length-set}
+use lib.ListN.{length, getD, set}
 use lib.Seq.{getD-set-same, getD-set-other}
 use Rattle.ints.specs.NatSums.{total, total-set}
-use Rattle.cells.specs.Marks.{at, row, col, one, one-same, one-other, More, mark, unmark, below, Kind, kind-then, kind-set}
+use Rattle.cells.specs.Marks.{at, row, col, one, one-same, one-other, mark, unmark, Kind, kind-then, kind-set}
 
 -- ---- found: the row i (f is 1 there) has one mark more, or the column j (g is 1 there) wants one mark more; all other rows keep their marks, all other
 -- columns have or want as many as before. No column wants more than before. No cell is touched whose row or column had been visited.

@@ -9,7 +9,7 @@ use lib.IntN.{ℤ, pos, negsuc, _*ℤ_}
 use Rattle.ints.specs.Bridge.{abs, za}
 use Rattle.ints.specs.Floor.{floor}
 use Rattle.ints.specs.Order.{abs-le}
-use Rattle.ints.specs.Range.{outside, outside-false, outside-within, or-false}
+use Rattle.ints.specs.Range.{outside-false, outside-within, or-false}
 use Rattle.ints.specs.Rest.{rest, Split, quot-is, rest-is}
 use Rattle.share.specs.Answer.{badAmount}
 use Rattle.share.specs.declared.Floored.{Floored}
