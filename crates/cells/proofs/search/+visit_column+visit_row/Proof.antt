@@ -6,7 +6,7 @@ use lib.ListN.{length, set, length-set}
 use Rattle.ints.specs.NatSums.{total}
 use Rattle.cells.specs.Marks.{at, below}
 use Rattle.cells.specs.Turns.{RowInv, ColInv, row-start, row-skip, row-miss, row-wants, row-less, row-hit, row-last, row-now, col-start, col-skip, col-miss, col-less, col-hit, col-last}
-use borrow.Fn.Kinds.{In}
+use borrow.Fn.Kinds.{In, Out}
 use borrow.Fn.PlainCycle.{Measures, is, falls, and}
 use Rattle.cells.proofs.search.visit_column.Reads as visit-column
 use Rattle.cells.proofs.search.visit_column.Kinds as visit-column-kinds
@@ -44,6 +44,10 @@ visit-column-Inv-loop marks₀ wc₀ ro₀ co₀ j m n i₀ marks wc ro co i = C
 abbrev visit-column-μ-loop : visit-column-lts.MeasureT-loop
 visit-column-μ-loop marks₀ wc₀ ro₀ co₀ j m n i₀ marks wc ro co i = m - i
 
+-- a need of `visit_column`, given visits of rows with less open
+abbrev of-column : (visit-column-lts.Claims → In 4 visit-column-kinds.ps → Out 4 visit-column-kinds.ps visit-column-kinds.r → visit-column-lts.InvT-loop → visit-column-lts.MeasureT-loop → Type 0) → ℕ → Type 0
+of-column N t = N (visit-row-below t, visit-row.Post) (visit-column-at t) visit-column.Post visit-column-Inv-loop visit-column-μ-loop
+
 abbrev ColIn : ℕ → Type 0
 ColIn t =
     visit-column-lts.In-loop (visit-row-below t, visit-row.Post) (visit-column-at t) visit-column.Post visit-column-Inv-loop visit-column-μ-loop
@@ -53,98 +57,37 @@ col-cell : (t : ℕ) (c : ColIn t) → (c .before .loop .i * length (c .before .
 col-cell t c =
     omega (arith, ap length (c .before .loop .inv .0 .same), c .before .before .before .before .before .before .pre .1 .0 .cells, below (c .loop-test .taken) (c .before .before .before .before .before .before .pre .1 .1), c .before .before .before .before .before .before .good)
 
-visit-column-mul-columns :
-    (t : ℕ) →
-    visit-column-lts.Need-mul-columns
-    (visit-row-below t, visit-row.Post)
-    (visit-column-at t)
-    visit-column.Post
-    visit-column-Inv-loop
-    visit-column-μ-loop
+visit-column-mul-columns : (t : ℕ) → of-column visit-column-lts.Need-mul-columns t
 visit-column-mul-columns t c = omega arith
 
-visit-column-slice-write-columns : (t : ℕ) → visit-column-lts.Need-slice-write-columns (
-  visit-row-below t,
-  visit-row.Post,
-) (visit-column-at t) visit-column.Post visit-column-Inv-loop visit-column-μ-loop
+visit-column-slice-write-columns : (t : ℕ) → of-column visit-column-lts.Need-slice-write-columns t
 visit-column-slice-write-columns t c = omega arith
 
-visit-column-loop-holds :
-    (t : ℕ) →
-    visit-column-lts.Need-loop-holds
-    (visit-row-below t, visit-row.Post)
-    (visit-column-at t)
-    visit-column.Post
-    visit-column-Inv-loop
-    visit-column-μ-loop
+visit-column-loop-holds : (t : ℕ) → of-column visit-column-lts.Need-loop-holds t
 visit-column-loop-holds t c = let s = c .before .before .before .before in col-start (s .args .marks .now) (s .args .wants .now) (s .args .rows .now) (set (s .args .columns .now) (s .args .j) 0) (s .args .j) refl (length-set (s .args .columns .now) (s .args .j) 0)
 
-visit-column-add-i :
-    (t : ℕ) →
-    visit-column-lts.Need-add-i
-    (visit-row-below t, visit-row.Post)
-    (visit-column-at t)
-    visit-column.Post
-    visit-column-Inv-loop
-    visit-column-μ-loop
+visit-column-add-i : (t : ℕ) → of-column visit-column-lts.Need-add-i t
 visit-column-add-i t c = omega arith
 
-visit-column-mul-if1 :
-    (t : ℕ) →
-    visit-column-lts.Need-mul-if1
-    (visit-row-below t, visit-row.Post)
-    (visit-column-at t)
-    visit-column.Post
-    visit-column-Inv-loop
-    visit-column-μ-loop
+visit-column-mul-if1 : (t : ℕ) → of-column visit-column-lts.Need-mul-if1 t
 visit-column-mul-if1 t c = omega arith
 
-visit-column-slice-read-if1 : (t : ℕ) → visit-column-lts.Need-slice-read-if1 (
-  visit-row-below t,
-  visit-row.Post,
-) (visit-column-at t) visit-column.Post visit-column-Inv-loop visit-column-μ-loop
+visit-column-slice-read-if1 : (t : ℕ) → of-column visit-column-lts.Need-slice-read-if1 t
 visit-column-slice-read-if1 t c = omega arith
 
-visit-column-mul-if2 :
-    (t : ℕ) →
-    visit-column-lts.Need-mul-if2
-    (visit-row-below t, visit-row.Post)
-    (visit-column-at t)
-    visit-column.Post
-    visit-column-Inv-loop
-    visit-column-μ-loop
+visit-column-mul-if2 : (t : ℕ) → of-column visit-column-lts.Need-mul-if2 t
 visit-column-mul-if2 t c = omega (arith, col-cell t (c .before .before))
 
-visit-column-add-if2 :
-    (t : ℕ) →
-    visit-column-lts.Need-add-if2
-    (visit-row-below t, visit-row.Post)
-    (visit-column-at t)
-    visit-column.Post
-    visit-column-Inv-loop
-    visit-column-μ-loop
+visit-column-add-if2 : (t : ℕ) → of-column visit-column-lts.Need-add-if2 t
 visit-column-add-if2 t c = omega (arith, col-cell t (c .before .before))
 
-visit-column-mul-if2-2 :
-    (t : ℕ) →
-    visit-column-lts.Need-mul-if2-2
-    (visit-row-below t, visit-row.Post)
-    (visit-column-at t)
-    visit-column.Post
-    visit-column-Inv-loop
-    visit-column-μ-loop
+visit-column-mul-if2-2 : (t : ℕ) → of-column visit-column-lts.Need-mul-if2-2 t
 visit-column-mul-if2-2 t c = omega (arith, col-cell t (c .before .before))
 
-visit-column-slice-read-if2 : (t : ℕ) → visit-column-lts.Need-slice-read-if2 (
-  visit-row-below t,
-  visit-row.Post,
-) (visit-column-at t) visit-column.Post visit-column-Inv-loop visit-column-μ-loop
+visit-column-slice-read-if2 : (t : ℕ) → of-column visit-column-lts.Need-slice-read-if2 t
 visit-column-slice-read-if2 t c = col-cell t (c .before .before .before) .0
 
-visit-column-visit-row-requires : (t : ℕ) → visit-column-lts.Need-visit-row-requires (
-  visit-row-below t,
-  visit-row.Post,
-) (visit-column-at t) visit-column.Post visit-column-Inv-loop visit-column-μ-loop
+visit-column-visit-row-requires : (t : ℕ) → of-column visit-column-lts.Need-visit-row-requires t
 visit-column-visit-row-requires t c κs =
     let l = c .before .before .before .before .before .before .before .before in
     let s = l .before .before .before .before .before .before in
@@ -157,155 +100,71 @@ visit-column-visit-row-requires t c κs =
       ),
     )
 
-visit-column-mul-marks :
-    (t : ℕ) →
-    visit-column-lts.Need-mul-marks
-    (visit-row-below t, visit-row.Post)
-    (visit-column-at t)
-    visit-column.Post
-    visit-column-Inv-loop
-    visit-column-μ-loop
+visit-column-mul-marks : (t : ℕ) → of-column visit-column-lts.Need-mul-marks t
 visit-column-mul-marks t c = omega (arith, col-cell t (c .before .before .before .before .before .before .before .before .before .before .before .before .before .before .before .before .before .before))
 
-visit-column-add-marks :
-    (t : ℕ) →
-    visit-column-lts.Need-add-marks
-    (visit-row-below t, visit-row.Post)
-    (visit-column-at t)
-    visit-column.Post
-    visit-column-Inv-loop
-    visit-column-μ-loop
+visit-column-add-marks : (t : ℕ) → of-column visit-column-lts.Need-add-marks t
 visit-column-add-marks t c = omega (arith, col-cell t (c .before .before .before .before .before .before .before .before .before .before .before .before .before .before .before .before .before .before))
 
-visit-column-mul-marks-2 : (t : ℕ) → visit-column-lts.Need-mul-marks-2 (
-  visit-row-below t,
-  visit-row.Post,
-) (visit-column-at t) visit-column.Post visit-column-Inv-loop visit-column-μ-loop
+visit-column-mul-marks-2 : (t : ℕ) → of-column visit-column-lts.Need-mul-marks-2 t
 visit-column-mul-marks-2 t c = omega (arith, col-cell t (c .before .before .before .before .before .before .before .before .before .before .before .before .before .before .before .before .before .before))
 
-visit-column-slice-write-marks : (t : ℕ) → visit-column-lts.Need-slice-write-marks (
-  visit-row-below t,
-  visit-row.Post,
-) (visit-column-at t) visit-column.Post visit-column-Inv-loop visit-column-μ-loop
+visit-column-slice-write-marks : (t : ℕ) → of-column visit-column-lts.Need-slice-write-marks t
 visit-column-slice-write-marks t c = omega (arith, col-cell t (c .before .before .before .before .before .before .before .before .before .before .before .before .before .before .before .before .before .before), c .before .before .before .before .before .before .before .before .before .visit-row .kept .0)
 
-visit-column-same-length : (t : ℕ) → visit-column-lts.Need-same-length (
-  visit-row-below t,
-  visit-row.Post,
-) (visit-column-at t) visit-column.Post visit-column-Inv-loop visit-column-μ-loop
+visit-column-same-length : (t : ℕ) → of-column visit-column-lts.Need-same-length t
 visit-column-same-length t c = simp length-set (c .before .before .before .before .before .before .before .before .before .visit-row .kept .0 ∙ ap length (c .before .before .before .before .before .before .before .before .before .before .before .before .before .before .before .before .before .before .before .loop .inv .0 .same))
 
-visit-column-same-length-2 : (t : ℕ) → visit-column-lts.Need-same-length-2 (
-  visit-row-below t,
-  visit-row.Post,
-) (visit-column-at t) visit-column.Post visit-column-Inv-loop visit-column-μ-loop
+visit-column-same-length-2 : (t : ℕ) → of-column visit-column-lts.Need-same-length-2 t
 visit-column-same-length-2 t c = c .before .before .before .before .before .before .before .before .before .visit-row .kept .1 .0 ∙ ap length (c .before .before .before .before .before .before .before .before .before .before .before .before .before .before .before .before .before .before .before .loop .inv .0 .wants)
 
-visit-column-same-length-3 : (t : ℕ) → visit-column-lts.Need-same-length-3 (
-  visit-row-below t,
-  visit-row.Post,
-) (visit-column-at t) visit-column.Post visit-column-Inv-loop visit-column-μ-loop
+visit-column-same-length-3 : (t : ℕ) → of-column visit-column-lts.Need-same-length-3 t
 visit-column-same-length-3 t c = c .before .before .before .before .before .before .before .before .before .visit-row .kept .1 .1 .0 ∙ c .before .before .before .before .before .before .before .before .before .before .before .before .before .before .before .before .before .before .before .loop .inv .0 .tall
 
-visit-column-same-length-4 : (t : ℕ) → visit-column-lts.Need-same-length-4 (
-  visit-row-below t,
-  visit-row.Post,
-) (visit-column-at t) visit-column.Post visit-column-Inv-loop visit-column-μ-loop
+visit-column-same-length-4 : (t : ℕ) → of-column visit-column-lts.Need-same-length-4 t
 visit-column-same-length-4 t c = c .before .before .before .before .before .before .before .before .before .visit-row .kept .1 .1 .1 .0 ∙ c .before .before .before .before .before .before .before .before .before .before .before .before .before .before .before .before .before .before .before .loop .inv .0 .long
 
-visit-column-returns :
-    (t : ℕ) →
-    visit-column-lts.Need-returns
-    (visit-row-below t, visit-row.Post)
-    (visit-column-at t)
-    visit-column.Post
-    visit-column-Inv-loop
-    visit-column-μ-loop
+visit-column-returns : (t : ℕ) → of-column visit-column-lts.Need-returns t
 visit-column-returns t c =
     let l = c .before .before .before .before .before .before .before .before .before .before .before .before .before .before .before .before .before .before in
     let s = l .before .before .before .before .before .before in
     let v = c .before .before .before .before .before .before .before .before .before .visit-row in
     col-hit (s .args .columns .now) (s .args .j) (s .pre .1 .1) (s .pre .1 .2) (l .before .loop .i) (l .before .loop .inv) (v .result) (omega arith) (omega (arith, col-cell t l, v .kept .0)) (c .before .before .before .before .before .before .before .before .before .before .before .before .before .before .if2 .taken) (c .before .before .before .before .before .before .before .before .before .before .before .before .before .before .before .before .if1 .taken) (v .ensures) (c .if3 .taken)
 
-visit-column-loop-less :
-    (t : ℕ) →
-    visit-column-lts.Need-loop-less
-    (visit-row-below t, visit-row.Post)
-    (visit-column-at t)
-    visit-column.Post
-    visit-column-Inv-loop
-    visit-column-μ-loop
+visit-column-loop-less : (t : ℕ) → of-column visit-column-lts.Need-loop-less t
 visit-column-loop-less t c = omega arith
 
-visit-column-loop-again :
-    (t : ℕ) →
-    visit-column-lts.Need-loop-again
-    (visit-row-below t, visit-row.Post)
-    (visit-column-at t)
-    visit-column.Post
-    visit-column-Inv-loop
-    visit-column-μ-loop
+visit-column-loop-again : (t : ℕ) → of-column visit-column-lts.Need-loop-again t
 visit-column-loop-again t c =
     let l = c .before .before .before .before .before .before .before .before .before .before .before .before .before .before .before .before .before .before in
     let v = c .before .before .before .before .before .before .before .before .before .visit-row in
     col-miss (l .before .before .before .before .before .before .args .j) (l .before .loop .i) (l .before .loop .inv) (l .loop-test .taken) (v .result) (v .ensures) (c .if3 .left) (v .kept .1 .1 .0) (v .kept .1 .1 .1 .0)
 
-visit-column-loop-less-2 : (t : ℕ) → visit-column-lts.Need-loop-less-2 (
-  visit-row-below t,
-  visit-row.Post,
-) (visit-column-at t) visit-column.Post visit-column-Inv-loop visit-column-μ-loop
+visit-column-loop-less-2 : (t : ℕ) → of-column visit-column-lts.Need-loop-less-2 t
 visit-column-loop-less-2 t c = omega arith
 
-visit-column-loop-again-2 : (t : ℕ) → visit-column-lts.Need-loop-again-2 (
-  visit-row-below t,
-  visit-row.Post,
-) (visit-column-at t) visit-column.Post visit-column-Inv-loop visit-column-μ-loop
+visit-column-loop-again-2 : (t : ℕ) → of-column visit-column-lts.Need-loop-again-2 t
 visit-column-loop-again-2 t c = let l = c .before .before .before .before in col-skip (l .before .before .before .before .before .before .args .j) (l .before .loop .i) (l .before .loop .inv) (l .loop-test .taken) (λ e. absurd (c .if2 .left e))
 
-visit-column-loop-less-3 : (t : ℕ) → visit-column-lts.Need-loop-less-3 (
-  visit-row-below t,
-  visit-row.Post,
-) (visit-column-at t) visit-column.Post visit-column-Inv-loop visit-column-μ-loop
+visit-column-loop-less-3 : (t : ℕ) → of-column visit-column-lts.Need-loop-less-3 t
 visit-column-loop-less-3 t c = omega arith
 
-visit-column-loop-again-3 : (t : ℕ) → visit-column-lts.Need-loop-again-3 (
-  visit-row-below t,
-  visit-row.Post,
-) (visit-column-at t) visit-column.Post visit-column-Inv-loop visit-column-μ-loop
+visit-column-loop-again-3 : (t : ℕ) → of-column visit-column-lts.Need-loop-again-3 t
 visit-column-loop-again-3 t c = let l = c .before .before in col-skip (l .before .before .before .before .before .before .args .j) (l .before .loop .i) (l .before .loop .inv) (l .loop-test .taken) (λ e. omega arith)
 
-visit-column-same-length-5 : (t : ℕ) → visit-column-lts.Need-same-length-5 (
-  visit-row-below t,
-  visit-row.Post,
-) (visit-column-at t) visit-column.Post visit-column-Inv-loop visit-column-μ-loop
+visit-column-same-length-5 : (t : ℕ) → of-column visit-column-lts.Need-same-length-5 t
 visit-column-same-length-5 t c = ap length (c .before .loop .inv .0 .same)
 
-visit-column-same-length-6 : (t : ℕ) → visit-column-lts.Need-same-length-6 (
-  visit-row-below t,
-  visit-row.Post,
-) (visit-column-at t) visit-column.Post visit-column-Inv-loop visit-column-μ-loop
+visit-column-same-length-6 : (t : ℕ) → of-column visit-column-lts.Need-same-length-6 t
 visit-column-same-length-6 t c = ap length (c .before .loop .inv .0 .wants)
 
-visit-column-same-length-7 : (t : ℕ) → visit-column-lts.Need-same-length-7 (
-  visit-row-below t,
-  visit-row.Post,
-) (visit-column-at t) visit-column.Post visit-column-Inv-loop visit-column-μ-loop
+visit-column-same-length-7 : (t : ℕ) → of-column visit-column-lts.Need-same-length-7 t
 visit-column-same-length-7 t c = c .before .loop .inv .0 .tall
 
-visit-column-same-length-8 : (t : ℕ) → visit-column-lts.Need-same-length-8 (
-  visit-row-below t,
-  visit-row.Post,
-) (visit-column-at t) visit-column.Post visit-column-Inv-loop visit-column-μ-loop
+visit-column-same-length-8 : (t : ℕ) → of-column visit-column-lts.Need-same-length-8 t
 visit-column-same-length-8 t c = c .before .loop .inv .0 .long
 
-visit-column-returns-2 :
-    (t : ℕ) →
-    visit-column-lts.Need-returns-2
-    (visit-row-below t, visit-row.Post)
-    (visit-column-at t)
-    visit-column.Post
-    visit-column-Inv-loop
-    visit-column-μ-loop
+visit-column-returns-2 : (t : ℕ) → of-column visit-column-lts.Need-returns-2 t
 visit-column-returns-2 t c = let s = c .before .before .before .before .before .before in col-last (s .args .columns .now) (s .args .j) (s .pre .1 .1) (s .pre .1 .2) (c .before .loop .i) (c .before .loop .inv) (c .loop-test .left) (s .pre .1 .3)
 
 abbrev visit-row-Inv-loop : visit-row-lts.InvT-loop
@@ -313,6 +172,10 @@ visit-row-Inv-loop marks₀ wc₀ ro₀ co₀ i m n f j₀ marks wc ro co j = Ro
 
 abbrev visit-row-μ-loop : visit-row-lts.MeasureT-loop
 visit-row-μ-loop marks₀ wc₀ ro₀ co₀ i m n f j₀ marks wc ro co j = n - j
+
+-- a need of `visit_row`, given visits of columns with less open
+abbrev of-row : (visit-row-lts.Claims → In 4 visit-row-kinds.ps → Out 4 visit-row-kinds.ps visit-row-kinds.r → visit-row-lts.InvT-loop → visit-row-lts.MeasureT-loop → Type 0) → ℕ → Type 0
+of-row N t = N (most-wanting-reads.Asked, most-wanting-reads.Learnt, visit-column-below t, visit-column.Post) (visit-row-at t) visit-row.Post visit-row-Inv-loop visit-row-μ-loop
 
 abbrev RowIn : ℕ → Type 0
 RowIn t =
@@ -323,204 +186,79 @@ row-cell : (t : ℕ) (c : RowIn t) → (c .before .before .before .before .befor
 row-cell t c =
     omega (arith, ap length (c .before .loop .inv .0 .same), c .before .before .before .before .before .before .before .before .before .before .before .pre .1 .0 .cells, below (c .before .before .before .before .before .before .before .before .before .before .before .pre .1 .1) (c .loop-test .taken), c .before .before .before .before .before .before .before .before .before .before .before .good)
 
-visit-row-mul-rows : (t : ℕ) → visit-row-lts.Need-mul-rows (
-  most-wanting-reads.Asked,
-  most-wanting-reads.Learnt,
-  visit-column-below t,
-  visit-column.Post,
-) (visit-row-at t) visit-row.Post visit-row-Inv-loop visit-row-μ-loop
+visit-row-mul-rows : (t : ℕ) → of-row visit-row-lts.Need-mul-rows t
 visit-row-mul-rows t c = omega arith
 
-visit-row-slice-write-rows : (t : ℕ) → visit-row-lts.Need-slice-write-rows (
-  most-wanting-reads.Asked,
-  most-wanting-reads.Learnt,
-  visit-column-below t,
-  visit-column.Post,
-) (visit-row-at t) visit-row.Post visit-row-Inv-loop visit-row-μ-loop
+visit-row-slice-write-rows : (t : ℕ) → of-row visit-row-lts.Need-slice-write-rows t
 visit-row-slice-write-rows t c = omega arith
 
-visit-row-most-wanting-requires : (t : ℕ) → visit-row-lts.Need-most-wanting-requires (
-  most-wanting-reads.Asked,
-  most-wanting-reads.Learnt,
-  visit-column-below t,
-  visit-column.Post,
-) (visit-row-at t) visit-row.Post visit-row-Inv-loop visit-row-μ-loop
+visit-row-most-wanting-requires : (t : ℕ) → of-row visit-row-lts.Need-most-wanting-requires t
 visit-row-most-wanting-requires t c κs = let s = c .before .before .before .before .before .before .before in (s .pre .1 .0 .wide, omega (arith, s .pre .1 .0 .cells, mul-le-mul-right (length (s .args .columns .now)) (s .pre .1 .1)))
 
-visit-row-mul-wants : (t : ℕ) → visit-row-lts.Need-mul-wants (
-  most-wanting-reads.Asked,
-  most-wanting-reads.Learnt,
-  visit-column-below t,
-  visit-column.Post,
-) (visit-row-at t) visit-row.Post visit-row-Inv-loop visit-row-μ-loop
+visit-row-mul-wants : (t : ℕ) → of-row visit-row-lts.Need-mul-wants t
 visit-row-mul-wants t c = omega arith
 
-visit-row-slice-read-wants : (t : ℕ) → visit-row-lts.Need-slice-read-wants (
-  most-wanting-reads.Asked,
-  most-wanting-reads.Learnt,
-  visit-column-below t,
-  visit-column.Post,
-) (visit-row-at t) visit-row.Post visit-row-Inv-loop visit-row-μ-loop
+visit-row-slice-read-wants : (t : ℕ) → of-row visit-row-lts.Need-slice-read-wants t
 visit-row-slice-read-wants t c = omega arith
 
-visit-row-sub-wants : (t : ℕ) → visit-row-lts.Need-sub-wants (
-  most-wanting-reads.Asked,
-  most-wanting-reads.Learnt,
-  visit-column-below t,
-  visit-column.Post,
-) (visit-row-at t) visit-row.Post visit-row-Inv-loop visit-row-μ-loop
+visit-row-sub-wants : (t : ℕ) → of-row visit-row-lts.Need-sub-wants t
 visit-row-sub-wants t c = let h = c .before .before .most-wanting .ensures .found (c .before .if1 .taken) in omega (arith, h)
 
-visit-row-slice-write-wants : (t : ℕ) → visit-row-lts.Need-slice-write-wants (
-  most-wanting-reads.Asked,
-  most-wanting-reads.Learnt,
-  visit-column-below t,
-  visit-column.Post,
-) (visit-row-at t) visit-row.Post visit-row-Inv-loop visit-row-μ-loop
+visit-row-slice-write-wants : (t : ℕ) → of-row visit-row-lts.Need-slice-write-wants t
 visit-row-slice-write-wants t c = omega arith
 
-visit-row-mul-marks : (t : ℕ) → visit-row-lts.Need-mul-marks (
-  most-wanting-reads.Asked,
-  most-wanting-reads.Learnt,
-  visit-column-below t,
-  visit-column.Post,
-) (visit-row-at t) visit-row.Post visit-row-Inv-loop visit-row-μ-loop
+visit-row-mul-marks : (t : ℕ) → of-row visit-row-lts.Need-mul-marks t
 visit-row-mul-marks t c = let s = c .before .before .before .before .before .before .before .before .before .before in omega (arith, s .pre .1 .0 .cells, below (s .pre .1 .1) (c .before .if1 .taken), s .good)
 
-visit-row-add-marks : (t : ℕ) → visit-row-lts.Need-add-marks (
-  most-wanting-reads.Asked,
-  most-wanting-reads.Learnt,
-  visit-column-below t,
-  visit-column.Post,
-) (visit-row-at t) visit-row.Post visit-row-Inv-loop visit-row-μ-loop
+visit-row-add-marks : (t : ℕ) → of-row visit-row-lts.Need-add-marks t
 visit-row-add-marks t c = let s = c .before .before .before .before .before .before .before .before .before .before in omega (arith, s .pre .1 .0 .cells, below (s .pre .1 .1) (c .before .if1 .taken), s .good)
 
-visit-row-mul-marks-2 : (t : ℕ) → visit-row-lts.Need-mul-marks-2 (
-  most-wanting-reads.Asked,
-  most-wanting-reads.Learnt,
-  visit-column-below t,
-  visit-column.Post,
-) (visit-row-at t) visit-row.Post visit-row-Inv-loop visit-row-μ-loop
+visit-row-mul-marks-2 : (t : ℕ) → of-row visit-row-lts.Need-mul-marks-2 t
 visit-row-mul-marks-2 t c = let s = c .before .before .before .before .before .before .before .before .before .before in omega (arith, s .pre .1 .0 .cells, below (s .pre .1 .1) (c .before .if1 .taken), s .good)
 
-visit-row-slice-write-marks : (t : ℕ) → visit-row-lts.Need-slice-write-marks (
-  most-wanting-reads.Asked,
-  most-wanting-reads.Learnt,
-  visit-column-below t,
-  visit-column.Post,
-) (visit-row-at t) visit-row.Post visit-row-Inv-loop visit-row-μ-loop
+visit-row-slice-write-marks : (t : ℕ) → of-row visit-row-lts.Need-slice-write-marks t
 visit-row-slice-write-marks t c = let s = c .before .before .before .before .before .before .before .before .before .before in omega (arith, s .pre .1 .0 .cells, below (s .pre .1 .1) (c .before .if1 .taken), s .good)
 
-visit-row-same-length : (t : ℕ) → visit-row-lts.Need-same-length (
-  most-wanting-reads.Asked,
-  most-wanting-reads.Learnt,
-  visit-column-below t,
-  visit-column.Post,
-) (visit-row-at t) visit-row.Post visit-row-Inv-loop visit-row-μ-loop
+visit-row-same-length : (t : ℕ) → of-row visit-row-lts.Need-same-length t
 visit-row-same-length t c = simp length-set
 
-visit-row-same-length-2 : (t : ℕ) → visit-row-lts.Need-same-length-2 (
-  most-wanting-reads.Asked,
-  most-wanting-reads.Learnt,
-  visit-column-below t,
-  visit-column.Post,
-) (visit-row-at t) visit-row.Post visit-row-Inv-loop visit-row-μ-loop
+visit-row-same-length-2 : (t : ℕ) → of-row visit-row-lts.Need-same-length-2 t
 visit-row-same-length-2 t c = simp length-set
 
-visit-row-same-length-3 : (t : ℕ) → visit-row-lts.Need-same-length-3 (
-  most-wanting-reads.Asked,
-  most-wanting-reads.Learnt,
-  visit-column-below t,
-  visit-column.Post,
-) (visit-row-at t) visit-row.Post visit-row-Inv-loop visit-row-μ-loop
+visit-row-same-length-3 : (t : ℕ) → of-row visit-row-lts.Need-same-length-3 t
 visit-row-same-length-3 t c = simp length-set
 
-visit-row-same-length-4 : (t : ℕ) → visit-row-lts.Need-same-length-4 (
-  most-wanting-reads.Asked,
-  most-wanting-reads.Learnt,
-  visit-column-below t,
-  visit-column.Post,
-) (visit-row-at t) visit-row.Post visit-row-Inv-loop visit-row-μ-loop
+visit-row-same-length-4 : (t : ℕ) → of-row visit-row-lts.Need-same-length-4 t
 visit-row-same-length-4 t c = refl
 
-visit-row-returns : (t : ℕ) → visit-row-lts.Need-returns (
-  most-wanting-reads.Asked,
-  most-wanting-reads.Learnt,
-  visit-column-below t,
-  visit-column.Post,
-) (visit-row-at t) visit-row.Post visit-row-Inv-loop visit-row-μ-loop
+visit-row-returns : (t : ℕ) → of-row visit-row-lts.Need-returns t
 visit-row-returns t c = let s = c .before .before .before .before .before .before .before .before .before .before in row-now (s .args .i) (c .before .before .most-wanting .result) (s .pre .1 .0) (s .pre .1 .1) (s .pre .1 .2) (c .before .before .most-wanting .ensures) (c .before .if1 .taken) (set (s .args .rows .now) (s .args .i) 0)
 
-visit-row-loop-holds : (t : ℕ) → visit-row-lts.Need-loop-holds (
-  most-wanting-reads.Asked,
-  most-wanting-reads.Learnt,
-  visit-column-below t,
-  visit-column.Post,
-) (visit-row-at t) visit-row.Post visit-row-Inv-loop visit-row-μ-loop
+visit-row-loop-holds : (t : ℕ) → of-row visit-row-lts.Need-loop-holds t
 visit-row-loop-holds t c = let s = c .before .before .before .before .before .before .before .before .before in row-start (s .args .marks .now) (s .args .wants .now) (set (s .args .rows .now) (s .args .i) 0) (s .args .columns .now) (s .args .i) (length-set (s .args .rows .now) (s .args .i) 0) refl
 
-visit-row-add-j : (t : ℕ) → visit-row-lts.Need-add-j (
-  most-wanting-reads.Asked,
-  most-wanting-reads.Learnt,
-  visit-column-below t,
-  visit-column.Post,
-) (visit-row-at t) visit-row.Post visit-row-Inv-loop visit-row-μ-loop
+visit-row-add-j : (t : ℕ) → of-row visit-row-lts.Need-add-j t
 visit-row-add-j t c = omega arith
 
-visit-row-mul-if2 : (t : ℕ) → visit-row-lts.Need-mul-if2 (
-  most-wanting-reads.Asked,
-  most-wanting-reads.Learnt,
-  visit-column-below t,
-  visit-column.Post,
-) (visit-row-at t) visit-row.Post visit-row-Inv-loop visit-row-μ-loop
+visit-row-mul-if2 : (t : ℕ) → of-row visit-row-lts.Need-mul-if2 t
 visit-row-mul-if2 t c = omega arith
 
-visit-row-slice-read-if2 : (t : ℕ) → visit-row-lts.Need-slice-read-if2 (
-  most-wanting-reads.Asked,
-  most-wanting-reads.Learnt,
-  visit-column-below t,
-  visit-column.Post,
-) (visit-row-at t) visit-row.Post visit-row-Inv-loop visit-row-μ-loop
+visit-row-slice-read-if2 : (t : ℕ) → of-row visit-row-lts.Need-slice-read-if2 t
 visit-row-slice-read-if2 t c = omega arith
 
-visit-row-mul-if3 : (t : ℕ) → visit-row-lts.Need-mul-if3 (
-  most-wanting-reads.Asked,
-  most-wanting-reads.Learnt,
-  visit-column-below t,
-  visit-column.Post,
-) (visit-row-at t) visit-row.Post visit-row-Inv-loop visit-row-μ-loop
+visit-row-mul-if3 : (t : ℕ) → of-row visit-row-lts.Need-mul-if3 t
 visit-row-mul-if3 t c = omega (arith, row-cell t (c .before .before))
 
-visit-row-add-if3 : (t : ℕ) → visit-row-lts.Need-add-if3 (
-  most-wanting-reads.Asked,
-  most-wanting-reads.Learnt,
-  visit-column-below t,
-  visit-column.Post,
-) (visit-row-at t) visit-row.Post visit-row-Inv-loop visit-row-μ-loop
+visit-row-add-if3 : (t : ℕ) → of-row visit-row-lts.Need-add-if3 t
 visit-row-add-if3 t c = omega (arith, row-cell t (c .before .before))
 
-visit-row-mul-if3-2 : (t : ℕ) → visit-row-lts.Need-mul-if3-2 (
-  most-wanting-reads.Asked,
-  most-wanting-reads.Learnt,
-  visit-column-below t,
-  visit-column.Post,
-) (visit-row-at t) visit-row.Post visit-row-Inv-loop visit-row-μ-loop
+visit-row-mul-if3-2 : (t : ℕ) → of-row visit-row-lts.Need-mul-if3-2 t
 visit-row-mul-if3-2 t c = omega (arith, row-cell t (c .before .before))
 
-visit-row-slice-read-if3 : (t : ℕ) → visit-row-lts.Need-slice-read-if3 (
-  most-wanting-reads.Asked,
-  most-wanting-reads.Learnt,
-  visit-column-below t,
-  visit-column.Post,
-) (visit-row-at t) visit-row.Post visit-row-Inv-loop visit-row-μ-loop
+visit-row-slice-read-if3 : (t : ℕ) → of-row visit-row-lts.Need-slice-read-if3 t
 visit-row-slice-read-if3 t c = row-cell t (c .before .before .before) .0
 
-visit-row-visit-column-requires : (t : ℕ) → visit-row-lts.Need-visit-column-requires (
-  most-wanting-reads.Asked,
-  most-wanting-reads.Learnt,
-  visit-column-below t,
-  visit-column.Post,
-) (visit-row-at t) visit-row.Post visit-row-Inv-loop visit-row-μ-loop
+visit-row-visit-column-requires : (t : ℕ) → of-row visit-row-lts.Need-visit-column-requires t
 visit-row-visit-column-requires t c κs =
     let l = c .before .before .before .before .before .before .before .before in
     let s = l .before .before .before .before .before .before .before .before .before .before .before in
@@ -537,171 +275,71 @@ visit-row-visit-column-requires t c κs =
       ),
     )
 
-visit-row-mul-marks-3 : (t : ℕ) → visit-row-lts.Need-mul-marks-3 (
-  most-wanting-reads.Asked,
-  most-wanting-reads.Learnt,
-  visit-column-below t,
-  visit-column.Post,
-) (visit-row-at t) visit-row.Post visit-row-Inv-loop visit-row-μ-loop
+visit-row-mul-marks-3 : (t : ℕ) → of-row visit-row-lts.Need-mul-marks-3 t
 visit-row-mul-marks-3 t c = omega (arith, row-cell t (c .before .before .before .before .before .before .before .before .before .before .before .before .before .before .before .before .before .before))
 
-visit-row-add-marks-2 : (t : ℕ) → visit-row-lts.Need-add-marks-2 (
-  most-wanting-reads.Asked,
-  most-wanting-reads.Learnt,
-  visit-column-below t,
-  visit-column.Post,
-) (visit-row-at t) visit-row.Post visit-row-Inv-loop visit-row-μ-loop
+visit-row-add-marks-2 : (t : ℕ) → of-row visit-row-lts.Need-add-marks-2 t
 visit-row-add-marks-2 t c = omega (arith, row-cell t (c .before .before .before .before .before .before .before .before .before .before .before .before .before .before .before .before .before .before))
 
-visit-row-mul-marks-4 : (t : ℕ) → visit-row-lts.Need-mul-marks-4 (
-  most-wanting-reads.Asked,
-  most-wanting-reads.Learnt,
-  visit-column-below t,
-  visit-column.Post,
-) (visit-row-at t) visit-row.Post visit-row-Inv-loop visit-row-μ-loop
+visit-row-mul-marks-4 : (t : ℕ) → of-row visit-row-lts.Need-mul-marks-4 t
 visit-row-mul-marks-4 t c = omega (arith, row-cell t (c .before .before .before .before .before .before .before .before .before .before .before .before .before .before .before .before .before .before))
 
-visit-row-slice-write-marks-2 : (t : ℕ) → visit-row-lts.Need-slice-write-marks-2 (
-  most-wanting-reads.Asked,
-  most-wanting-reads.Learnt,
-  visit-column-below t,
-  visit-column.Post,
-) (visit-row-at t) visit-row.Post visit-row-Inv-loop visit-row-μ-loop
+visit-row-slice-write-marks-2 : (t : ℕ) → of-row visit-row-lts.Need-slice-write-marks-2 t
 visit-row-slice-write-marks-2 t c = omega (arith, row-cell t (c .before .before .before .before .before .before .before .before .before .before .before .before .before .before .before .before .before .before), c .before .before .before .before .before .before .before .before .before .visit-column .kept .0)
 
-visit-row-same-length-5 : (t : ℕ) → visit-row-lts.Need-same-length-5 (
-  most-wanting-reads.Asked,
-  most-wanting-reads.Learnt,
-  visit-column-below t,
-  visit-column.Post,
-) (visit-row-at t) visit-row.Post visit-row-Inv-loop visit-row-μ-loop
+visit-row-same-length-5 : (t : ℕ) → of-row visit-row-lts.Need-same-length-5 t
 visit-row-same-length-5 t c = simp length-set (c .before .before .before .before .before .before .before .before .before .visit-column .kept .0 ∙ ap length (c .before .before .before .before .before .before .before .before .before .before .before .before .before .before .before .before .before .before .before .loop .inv .0 .same))
 
-visit-row-same-length-6 : (t : ℕ) → visit-row-lts.Need-same-length-6 (
-  most-wanting-reads.Asked,
-  most-wanting-reads.Learnt,
-  visit-column-below t,
-  visit-column.Post,
-) (visit-row-at t) visit-row.Post visit-row-Inv-loop visit-row-μ-loop
+visit-row-same-length-6 : (t : ℕ) → of-row visit-row-lts.Need-same-length-6 t
 visit-row-same-length-6 t c = c .before .before .before .before .before .before .before .before .before .visit-column .kept .1 .0 ∙ ap length (c .before .before .before .before .before .before .before .before .before .before .before .before .before .before .before .before .before .before .before .loop .inv .0 .wants)
 
-visit-row-same-length-7 : (t : ℕ) → visit-row-lts.Need-same-length-7 (
-  most-wanting-reads.Asked,
-  most-wanting-reads.Learnt,
-  visit-column-below t,
-  visit-column.Post,
-) (visit-row-at t) visit-row.Post visit-row-Inv-loop visit-row-μ-loop
+visit-row-same-length-7 : (t : ℕ) → of-row visit-row-lts.Need-same-length-7 t
 visit-row-same-length-7 t c = c .before .before .before .before .before .before .before .before .before .visit-column .kept .1 .1 .0 ∙ c .before .before .before .before .before .before .before .before .before .before .before .before .before .before .before .before .before .before .before .loop .inv .0 .tall
 
-visit-row-same-length-8 : (t : ℕ) → visit-row-lts.Need-same-length-8 (
-  most-wanting-reads.Asked,
-  most-wanting-reads.Learnt,
-  visit-column-below t,
-  visit-column.Post,
-) (visit-row-at t) visit-row.Post visit-row-Inv-loop visit-row-μ-loop
+visit-row-same-length-8 : (t : ℕ) → of-row visit-row-lts.Need-same-length-8 t
 visit-row-same-length-8 t c = c .before .before .before .before .before .before .before .before .before .visit-column .kept .1 .1 .1 .0 ∙ c .before .before .before .before .before .before .before .before .before .before .before .before .before .before .before .before .before .before .before .loop .inv .0 .long
 
-visit-row-returns-2 : (t : ℕ) → visit-row-lts.Need-returns-2 (
-  most-wanting-reads.Asked,
-  most-wanting-reads.Learnt,
-  visit-column-below t,
-  visit-column.Post,
-) (visit-row-at t) visit-row.Post visit-row-Inv-loop visit-row-μ-loop
+visit-row-returns-2 : (t : ℕ) → of-row visit-row-lts.Need-returns-2 t
 visit-row-returns-2 t c =
     let l = c .before .before .before .before .before .before .before .before .before .before .before .before .before .before .before .before .before .before in
     let s = l .before .before .before .before .before .before .before .before .before .before .before in
     let v = c .before .before .before .before .before .before .before .before .before .visit-column in
     row-hit (s .args .rows .now) (s .args .i) (s .pre .1 .1) (s .pre .1 .2) (l .before .loop .j) (l .before .loop .inv) (v .result) (l .loop-test .taken) (omega (arith, row-cell t l, v .kept .0)) (c .before .before .before .before .before .before .before .before .before .before .before .before .before .before .if3 .taken) (c .before .before .before .before .before .before .before .before .before .before .before .before .before .before .before .before .if2 .taken) (v .ensures) (c .if4 .taken)
 
-visit-row-loop-less : (t : ℕ) → visit-row-lts.Need-loop-less (
-  most-wanting-reads.Asked,
-  most-wanting-reads.Learnt,
-  visit-column-below t,
-  visit-column.Post,
-) (visit-row-at t) visit-row.Post visit-row-Inv-loop visit-row-μ-loop
+visit-row-loop-less : (t : ℕ) → of-row visit-row-lts.Need-loop-less t
 visit-row-loop-less t c = omega arith
 
-visit-row-loop-again : (t : ℕ) → visit-row-lts.Need-loop-again (
-  most-wanting-reads.Asked,
-  most-wanting-reads.Learnt,
-  visit-column-below t,
-  visit-column.Post,
-) (visit-row-at t) visit-row.Post visit-row-Inv-loop visit-row-μ-loop
+visit-row-loop-again : (t : ℕ) → of-row visit-row-lts.Need-loop-again t
 visit-row-loop-again t c =
     let l = c .before .before .before .before .before .before .before .before .before .before .before .before .before .before .before .before .before .before in
     let v = c .before .before .before .before .before .before .before .before .before .visit-column in
     row-miss (l .before .before .before .before .before .before .before .before .before .before .before .args .i) (l .before .loop .j) (l .before .loop .inv) (l .loop-test .taken) (v .result) (v .ensures) (c .if4 .left) (v .kept .1 .1 .0) (v .kept .1 .1 .1 .0)
 
-visit-row-loop-less-2 : (t : ℕ) → visit-row-lts.Need-loop-less-2 (
-  most-wanting-reads.Asked,
-  most-wanting-reads.Learnt,
-  visit-column-below t,
-  visit-column.Post,
-) (visit-row-at t) visit-row.Post visit-row-Inv-loop visit-row-μ-loop
+visit-row-loop-less-2 : (t : ℕ) → of-row visit-row-lts.Need-loop-less-2 t
 visit-row-loop-less-2 t c = omega arith
 
-visit-row-loop-again-2 : (t : ℕ) → visit-row-lts.Need-loop-again-2 (
-  most-wanting-reads.Asked,
-  most-wanting-reads.Learnt,
-  visit-column-below t,
-  visit-column.Post,
-) (visit-row-at t) visit-row.Post visit-row-Inv-loop visit-row-μ-loop
+visit-row-loop-again-2 : (t : ℕ) → of-row visit-row-lts.Need-loop-again-2 t
 visit-row-loop-again-2 t c = let l = c .before .before .before .before in row-skip (l .before .before .before .before .before .before .before .before .before .before .before .args .i) (l .before .loop .j) (l .before .loop .inv) (l .loop-test .taken) (λ e. absurd (c .if3 .left e))
 
-visit-row-loop-less-3 : (t : ℕ) → visit-row-lts.Need-loop-less-3 (
-  most-wanting-reads.Asked,
-  most-wanting-reads.Learnt,
-  visit-column-below t,
-  visit-column.Post,
-) (visit-row-at t) visit-row.Post visit-row-Inv-loop visit-row-μ-loop
+visit-row-loop-less-3 : (t : ℕ) → of-row visit-row-lts.Need-loop-less-3 t
 visit-row-loop-less-3 t c = omega arith
 
-visit-row-loop-again-3 : (t : ℕ) → visit-row-lts.Need-loop-again-3 (
-  most-wanting-reads.Asked,
-  most-wanting-reads.Learnt,
-  visit-column-below t,
-  visit-column.Post,
-) (visit-row-at t) visit-row.Post visit-row-Inv-loop visit-row-μ-loop
+visit-row-loop-again-3 : (t : ℕ) → of-row visit-row-lts.Need-loop-again-3 t
 visit-row-loop-again-3 t c = let l = c .before .before in row-skip (l .before .before .before .before .before .before .before .before .before .before .before .args .i) (l .before .loop .j) (l .before .loop .inv) (l .loop-test .taken) (λ e. omega arith)
 
-visit-row-same-length-9 : (t : ℕ) → visit-row-lts.Need-same-length-9 (
-  most-wanting-reads.Asked,
-  most-wanting-reads.Learnt,
-  visit-column-below t,
-  visit-column.Post,
-) (visit-row-at t) visit-row.Post visit-row-Inv-loop visit-row-μ-loop
+visit-row-same-length-9 : (t : ℕ) → of-row visit-row-lts.Need-same-length-9 t
 visit-row-same-length-9 t c = ap length (c .before .loop .inv .0 .same)
 
-visit-row-same-length-10 : (t : ℕ) → visit-row-lts.Need-same-length-10 (
-  most-wanting-reads.Asked,
-  most-wanting-reads.Learnt,
-  visit-column-below t,
-  visit-column.Post,
-) (visit-row-at t) visit-row.Post visit-row-Inv-loop visit-row-μ-loop
+visit-row-same-length-10 : (t : ℕ) → of-row visit-row-lts.Need-same-length-10 t
 visit-row-same-length-10 t c = ap length (c .before .loop .inv .0 .wants)
 
-visit-row-same-length-11 : (t : ℕ) → visit-row-lts.Need-same-length-11 (
-  most-wanting-reads.Asked,
-  most-wanting-reads.Learnt,
-  visit-column-below t,
-  visit-column.Post,
-) (visit-row-at t) visit-row.Post visit-row-Inv-loop visit-row-μ-loop
+visit-row-same-length-11 : (t : ℕ) → of-row visit-row-lts.Need-same-length-11 t
 visit-row-same-length-11 t c = c .before .loop .inv .0 .tall
 
-visit-row-same-length-12 : (t : ℕ) → visit-row-lts.Need-same-length-12 (
-  most-wanting-reads.Asked,
-  most-wanting-reads.Learnt,
-  visit-column-below t,
-  visit-column.Post,
-) (visit-row-at t) visit-row.Post visit-row-Inv-loop visit-row-μ-loop
+visit-row-same-length-12 : (t : ℕ) → of-row visit-row-lts.Need-same-length-12 t
 visit-row-same-length-12 t c = c .before .loop .inv .0 .long
 
-visit-row-returns-3 : (t : ℕ) → visit-row-lts.Need-returns-3 (
-  most-wanting-reads.Asked,
-  most-wanting-reads.Learnt,
-  visit-column-below t,
-  visit-column.Post,
-) (visit-row-at t) visit-row.Post visit-row-Inv-loop visit-row-μ-loop
+visit-row-returns-3 : (t : ℕ) → of-row visit-row-lts.Need-returns-3 t
 visit-row-returns-3 t c = let s = c .before .before .before .before .before .before .before .before .before .before .before in row-last (s .args .rows .now) (s .args .i) (s .pre .1 .1) (s .pre .1 .2) (c .before .loop .j) (c .before .loop .inv) (c .loop-test .left)
 
 pub +visit-column+visit-row-spec : {M : Type 1} → statement M
