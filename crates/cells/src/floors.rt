@@ -56,11 +56,14 @@ fn floor_row(
     ensures { λ r. ⌜ RowFloors v (now (debits .entry)) w (now (cells .entry)) (now (marks .entry)) (now (wants .entry)) (now (lefts .entry)) base (now (cells .exit)) (now (marks .exit)) (now (wants .exit)) (now (lefts .exit)) (length (now (debits .entry))) r ⌝ }
 {
     let n = debits.len();
+    let k = share::weights::rate_of(share::size(v), w);
     let mut lacks: u64 = 0;
     let mut left: u64 = 0;
     let mut j = 0;
     while j < n {
-        let f = share::floor_with_rest(v, debits[j], w);
+        let x = debits[j];
+        let p = share::weights::at_rate(k, x, w);
+        let f = share::signed(v, x, w, p);
         let q = f.quot;
         let r = f.rem;
         cells[base + j] = q;

@@ -8,6 +8,9 @@ ghost use Rattle.ints.specs.Rest.{Split};
 ghost use Rattle.wide.specs.Exact.{divided};
 ghost use Rattle.share.specs.Answer.{shared, badSums, seenByC};
 ghost use Rattle.share.specs.Exact.{beyond, floored};
+
+pub mod weights;
+
 use wide::Divided;
 use wide::Ratio;
 
@@ -42,21 +45,39 @@ fn scaled(a: u64, t: u64, w: u64) -> Divided
     }
 }
 
+// A size over w: whole times w and part, and part over w as a fraction of 2^63.
+pub struct Rate {
+    pub size: u64,
+    pub whole: u64,
+    pub part: u64,
+    pub fraction: u64,
+}
+
 // p × t over w: the quotient rounded down, and what is left over.
 pub struct Floored {
     pub quot: i64,
     pub rem: u64,
 }
 
-// p × t over w. What is below 0 goes by its size, and a remainder takes it one further down.
-fn split(p: i64, t: u64, w: u64) -> Floored
-    requires { ⌜ (abs p ≤ 100000000000000000) × (t ≤ w) × (0 < w) ⌝ }
-    ensures { λ r. ⌜ Split (p *ℤ pos t) w (r .quot) (r .rem) ⌝ }
+// An amount's size.
+pub fn size(p: i64) -> u64
+    requires { ⌜ abs p ≤ 100000000000000000 ⌝ }
+    ensures { λ r. ⌜ r ≡ abs p ⌝ }
 {
     if p < 0 {
-        let d = scaled((-p) as u64, t, w);
-        let q = d.quot as i64;
-        let m = d.rem;
+        return (-p) as u64;
+    }
+    p as u64
+}
+
+// p × t over w, from d, that of p's size: what is below 0 goes by its size, and a remainder takes it one further down.
+pub fn signed(p: i64, t: u64, w: u64, d: Divided) -> Floored
+    requires { ⌜ (abs p ≤ 100000000000000000) × (t ≤ w) × (0 < w) × (d ≡ divided (abs p * t) w) ⌝ }
+    ensures { λ r. ⌜ Split (p *ℤ pos t) w (r .quot) (r .rem) ⌝ }
+{
+    let q = d.quot as i64;
+    let m = d.rem;
+    if p < 0 {
         if m == 0 {
             return Floored { quot: -q, rem: 0 };
         }
@@ -65,11 +86,16 @@ fn split(p: i64, t: u64, w: u64) -> Floored
             rem: w - m,
         };
     }
-    let d = scaled(p as u64, t, w);
-    Floored {
-        quot: d.quot as i64,
-        rem: d.rem,
-    }
+    Floored { quot: q, rem: m }
+}
+
+// p × t over w.
+fn split(p: i64, t: u64, w: u64) -> Floored
+    requires { ⌜ (abs p ≤ 100000000000000000) × (t ≤ w) × (0 < w) ⌝ }
+    ensures { λ r. ⌜ Split (p *ℤ pos t) w (r .quot) (r .rem) ⌝ }
+{
+    let d = scaled(size(p), t, w);
+    signed(p, t, w, d)
 }
 
 // Whether p, t and w break the limits of `floor_with_rest`.
