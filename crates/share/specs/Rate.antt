@@ -30,6 +30,10 @@ divided-is x w q r d a b e l =
     both : ℕ → ℕ → Divided
     both q r = record { quot = q; rem = r }
 
+-- a product whose high word is 0
+pub one-word : (n : ℕ) → n / 2 ^ 64 ≡ 0 → {l : ℕ} → l ≡ n % 2 ^ 64 → l ≡ n
+one-word n h e = omega (arith, div-add-mod' n (2 ^ 64))
+
 pub record Near (n w q : ℕ) : Type 0 where
   pub low : q * w ≤ n
   pub high : n < q * w + (w + w)

@@ -1,4 +1,5 @@
-// One amount over many weights of one sum: w divides once, and each weight takes products only.
+// One amount over many weights of one sum. A product of one word, as most are, takes one plain division; for the others w divides once,
+// and each weight takes products only.
 ghost use mathlib.Core.Path.{_≡_};
 ghost use Prim.Native.Nat.{_*_, _≤_, _<_};
 ghost use Rattle.wide.specs.Exact.{divided};
@@ -48,6 +49,13 @@ pub fn at_rate(k: Rate, t: u64, w: u64) -> Divided
     requires { ⌜ Rated w k × (t ≤ w) × (w ≤ 100000000000000000) ⌝ }
     ensures { λ r. ⌜ r ≡ divided (k .size * t) w ⌝ }
 {
+    let n = multiply(k.size, t);
+    if n.high == 0 {
+        return Divided {
+            quot: n.low / w,
+            rem: n.low % w,
+        };
+    }
     let d = part_at(k.part, k.fraction, t, w);
     Divided {
         quot: k.whole * t + d.quot,

@@ -8,6 +8,7 @@ use Rattle.wide.specs.declared.Divided.{Divided}
 use Rattle.wide.specs.declared.Words.{Words}
 use Rattle.wide.specs.declared.Ratio.the-variants.{Exact, Over, ByZero}
 use Rattle.wide.specs.Exact.{divided}
+use Rattle.share.specs.Rate.{one-word}
 use Rattle.wide.proofs.Laws.{ratio-exact}
 use Rattle.share.proofs.scaled.Statement.{statement}
 use Rattle.share.proofs.scaled.Tie as tie
@@ -28,9 +29,6 @@ not-over p = let z : _≡_ {A = ℕ} 0 1 = cc in omega arith
 
 not-by-zero : {d : Divided} → ByZero ≡ Exact d → ⊥
 not-by-zero p = let z : _≡_ {A = ℕ} 0 1 = cc in omega arith
-
-one-word : (n : ℕ) → n / 2 ^ 64 ≡ 0 → {l : ℕ} → l ≡ n % 2 ^ 64 → l ≡ n
-one-word n h e = omega (arith, div-add-mod' n (2 ^ 64))
 
 multiply-requires : tie.Need-multiply-requires
 multiply-requires c κs = search needs
