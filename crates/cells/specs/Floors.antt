@@ -57,7 +57,7 @@ parts {vc} {debits} {w} B k =
     ⊎-elim (λ h. omega (arith, List·getD-eq-default debits 0 h)) (λ h. omega (arith, Σ-part (length debits) (debitOf debits) k h, B .users)) (le-or-lt (length debits) k)
 
 -- the slices that are written
-pub record Place (vc : List ℤ) (debits : List ℕ) (cells : List ℤ) (marks lacks wants lefts : List ℕ) : Type 0 where
+pub record Slices (vc : List ℤ) (debits : List ℕ) (cells : List ℤ) (marks lacks wants lefts : List ℕ) : Type 0 where
   pub cells-long : length cells ≡ length vc * length debits
   pub marks-long : length marks ≡ length vc * length debits
   pub lacks-long : length lacks ≡ length vc
@@ -82,7 +82,7 @@ pub record Rowed (vc : List ℤ) (debits : List ℕ) (w : ℕ) (cells : List ℤ
   pub wants-long : length wants ≡ length debits
   pub lefts-long : length lefts ≡ length debits
 
-pub rowed-none : {vc : List ℤ} {debits : List ℕ} {w : ℕ} {cells : List ℤ} {marks lacks wants lefts : List ℕ} → Given vc debits w → Place vc debits cells marks lacks wants lefts → Rowed vc debits w cells marks lacks wants lefts 0
+pub rowed-none : {vc : List ℤ} {debits : List ℕ} {w : ℕ} {cells : List ℤ} {marks lacks wants lefts : List ℕ} → Given vc debits w → Slices vc debits cells marks lacks wants lefts → Rowed vc debits w cells marks lacks wants lefts 0
 unfolding Σ
 rowed-none {w = w} G o = record {
   here = omega arith;

@@ -1,3 +1,4 @@
+-- xs holds the cells' states, wr what each row lacks, wc what each column wants, ro and co what is open.
 -- The driver: every row gets the marks that it wants, and so does every column, wherever some table of numbers (Feasible) says that this can be.
 use mathlib.Core.Path.{_≡_, refl, sym, ap, _∙_}
 use mathlib.Core.Bool.{Bool, true, false}

@@ -1,5 +1,5 @@
 -- The search: what a visit of a row, or of a column, has done where it found a column that wants a mark, and where it found none.
--- ro and co hold, of each row and column, a number above 0 while it is open, and 0 once it was visited. wc holds the marks that each column still wants.
+-- xs holds the cells' states; ro and co hold, of each row and column, a number above 0 while it is open, and 0 once it was visited. wc holds the marks that each column still wants.
 use mathlib.Core.Path.{_≡_, refl, sym, ap, _∙_}
 use mathlib.Core.Bool.{Bool, true, false}
 use mathlib.Core.List.{List}

@@ -6,7 +6,7 @@ ghost use lib.ListN.{length};
 ghost use lib.IntN.{pos};
 ghost use Rattle.cells.specs.Naturals.{Unsigned, Naturals};
 ghost use Rattle.cells.specs.Rows.{Carried, RowAsks, RowFloors};
-ghost use Rattle.cells.specs.Floors.{Given, Place, Floored};
+ghost use Rattle.cells.specs.Floors.{Given, Slices, Floored};
 
 // The debits as unsigned numbers; their sum.
 pub fn naturals(vd: &[i64], debits: &mut [u64]) -> u64
@@ -92,7 +92,7 @@ pub fn floors(
     wants: &mut [u64],
     lefts: &mut [u64],
 )
-    requires { ⌜ Given (now vc) (now debits) w × Place (now vc) (now debits) (now cells) (now marks) (now lacks) (now wants) (now lefts) ⌝ }
+    requires { ⌜ Given (now vc) (now debits) w × Slices (now vc) (now debits) (now cells) (now marks) (now lacks) (now wants) (now lefts) ⌝ }
     ensures { λ r. ⌜ Floored (now (vc .entry)) (now (debits .entry)) w (now (cells .exit)) (now (marks .exit)) (now (lacks .exit)) (now (wants .exit)) ⌝ }
 {
     let m = vc.len();

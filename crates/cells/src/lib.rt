@@ -34,7 +34,8 @@ fn post(cells: &mut [i64], marks: &[u64])
     }
 }
 
-// The table, with room lent for what each row and column needs.
+// The table, with room lent for what each row and column needs. `columns` first holds what the floors leave of each column's sum, and
+// then which columns the search has open.
 fn lay(
     vc: &[i64],
     vd: &[i64],

@@ -9,6 +9,7 @@ use super::scaled;
 use wide::Divided;
 use wide::product::multiply;
 
+// A size over w, divided once for all its weights.
 pub fn rate_of(size: u64, w: u64) -> Rate
     requires { ⌜ (0 < w) × (size ≤ 100000000000000000) ⌝ }
     ensures { λ r. ⌜ Rated w r × (r .size ≡ size) ⌝ }
