@@ -24,19 +24,13 @@ pub fn rate_of(size: u64, w: u64) -> Rate
     }
 }
 
-// part × t over w. Past one word the fraction's product is the quotient or one less, so the low words tell what it leaves.
+// part × t over w: the fraction's product is the quotient or one less, so the low words tell what it leaves.
 fn part_at(part: u64, fraction: u64, t: u64, w: u64) -> Divided
     requires { ⌜ Fraction part w fraction × (t ≤ w) × (0 < w) × (w ≤ 100000000000000000) ⌝ }
     ensures { λ r. ⌜ r ≡ divided (part * t) w ⌝ }
 {
-    let n = multiply(part, t);
-    if n.high == 0 {
-        return Divided {
-            quot: n.low / w,
-            rem: n.low % w,
-        };
-    }
     let q = multiply(fraction, 2 * t);
+    let n = multiply(part, t);
     let y = multiply(q.high, w);
     let r = std::num::wrapping_sub_u64(n.low, y.low);
     if r < w {
@@ -56,6 +50,13 @@ pub fn at_rate(k: Rate, t: u64, w: u64) -> Divided
     requires { ⌜ Rated w k × (t ≤ w) × (w ≤ 100000000000000000) ⌝ }
     ensures { λ r. ⌜ r ≡ divided (k .size * t) w ⌝ }
 {
+    let n = multiply(k.size, t);
+    if n.high == 0 {
+        return Divided {
+            quot: n.low / w,
+            rem: n.low % w,
+        };
+    }
     let d = part_at(k.part, k.fraction, t, w);
     Divided {
         quot: k.whole * t + d.quot,
