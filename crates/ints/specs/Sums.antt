@@ -14,6 +14,7 @@ use mir.Val.{SFits}
 use Rattle.ints.specs.Bridge.{abs, za, add#}
 use Rattle.ints.specs.Ring.{all3, all4, diff}
 use Rattle.ints.specs.Order.{add-mono, ≤-refl, ≤-trans, ≡→≤}
+use Rattle.ints.specs.NatSums.{Σ}
 
 -- ---- of a list
 unfoldable pub sumℤ : List ℤ → ℤ
@@ -180,3 +181,9 @@ pub Σ-list : (xs : List ℤ) (n : ℕ) → n ≤ length xs → Σ< n (λ k. get
 unfolding Σ<
 Σ-list xs zero h = sym (sum-start xs)
 Σ-list xs (suc n) h = ap (λ (t : ℤ). t +ℤ getD xs n (pos 0)) (Σ-list xs n (omega arith)) ∙ sym (sum-more xs n (pos 0) h) ∙ ap (λ (k : ℕ). sumℤ (take k xs)) (add-one n)
+
+-- the sum of naturals
+pub Σ-pos : (n : ℕ) (f : ℕ → ℕ) → Σ< n (λ k. pos (f k)) ≡ pos (Σ n f)
+unfolding Σ< Σ
+Σ-pos zero f = refl
+Σ-pos (suc n) f = ap (λ (t : ℤ). t +ℤ pos (f n)) (Σ-pos n f)

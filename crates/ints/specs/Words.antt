@@ -1,17 +1,17 @@
 -- What the machine adds: a signed local holds bits, so that each operand is read back from them, `toZ w64 (ofZ w64 x)`, which is x where x fits.
 use mathlib.Core.Path.{_≡_, refl, sym, ap, _∙_}
 use mathlib.Core.Bool.{Bool, true, false}
-use Prim.Native.Nat.{ℕ, suc, _/_, _%_, _≤_, _<_, _^_}
+use Prim.Native.Nat.{ℕ, zero, suc, _+_, _/_, _%_, _≤_, _<_, _^_}
 use native.Mathlib.Omega.{arith}
 use borrow.Author.Tests.{eq-eqb, ne-eqb}
 use lib.Dec.{T, eqb, ltb}
-use lib.IntN.{ℤ, pos, negsuc, natAbs, _-ℤ_}
+use lib.IntN.{ℤ, pos, negsuc, natAbs, negℤ, _+ℤ_, _-ℤ_, _*ℤ_}
 use lib.Signed.{nonNeg, quotZ, remZ, _≤ℤ_, _<ℤ_}
-use native.Mathlib.Nat.{div-le-self, mod-le}
+use native.Mathlib.Nat.{div-le-self, mod-le, div-add-mod', div-lt-iff-lt-mul, mul-le-mul-left}
 use mir.Syntax.{w64}
 use mir.Val.{SFits, Fits, toZ, ofZ}
 use mir.Facts.{toZ-ofZ, toZ-pos, sfits-lit}
-use Rattle.ints.specs.Bridge.{up, dn, abs, abs-is, za, neg#, sub#, one#}
+use Rattle.ints.specs.Bridge.{up, dn, abs, abs-is, za, fits-in, neg#, add#, sub#, mul#, one#}
 use Rattle.ints.specs.Floor.{floor}
 use Rattle.ints.specs.Range.{eqZ, eqZ-true, eqZ-false, outside, outside-false}
 
@@ -56,6 +56,17 @@ quot-small (pos a) (negsuc b) = omega (arith, div-le-self a (suc b), neg# (pos (
 quot-small (negsuc a) (pos b) = omega (arith, div-le-self (suc a) b, neg# (pos (suc a / b)))
 quot-small (negsuc a) (negsuc b) = omega (arith, div-le-self (suc a) (suc b))
 
+-- by 2 or more, it is far within a word
+pub quot-half : {x : ℤ} (w : ℕ) → 1 < w → SFits w64 x → abs (quotZ x (pos w)) ≤ 2 ^ 62
+quot-half {x} w h f = go x (fits-in f)
+  where
+    half : (n : ℕ) → n ≤ 2 ^ 63 → n / w < 2 ^ 62 + 1
+    half n l = div-lt-iff-lt-mul {k = w} (omega arith) .1 (omega (arith, mul-le-mul-left (2 ^ 62 + 1) h))
+
+    go : (x : ℤ) → up x + dn x ≤ 2 ^ 63 → abs (quotZ x (pos w)) ≤ 2 ^ 62
+    go (pos a) l = omega (arith, half a (omega arith))
+    go (negsuc a) l = omega (arith, half (suc a) (omega arith), neg# (pos (suc a / w)))
+
 pub rem-small : (x y : ℤ) → abs (remZ x y) ≤ abs x
 rem-small (pos a) y = omega (arith, mod-le a (natAbs y))
 rem-small (negsuc a) y = omega (arith, mod-le (suc a) (natAbs y), neg# (pos (suc a % natAbs y)))
@@ -69,6 +80,21 @@ pub quot-floor : (x : ℤ) (w : ℕ) → pos 0 ≤ℤ x → quotZ x (pos w) ≡ 
 unfolding floor
 quot-floor (pos a) w h = refl
 quot-floor (negsuc a) w h = absurd (omega za)
+
+-- and the remainder what the floor leaves
+pub rem-floor : (x : ℤ) (w : ℕ) → pos 0 ≤ℤ x → remZ x (pos w) ≡ x -ℤ floor x (pos w) *ℤ pos w
+unfolding floor
+rem-floor (pos a) w h = omega (za, div-add-mod' a w, sub# (pos a) (pos (a / w) *ℤ pos w), mul# (pos (a / w)) (pos w))
+rem-floor (negsuc a) w h = absurd (omega za)
+
+-- of a negative dividend the floor is one below the quotient of the number after it
+pub quot-below : (x : ℤ) (w : ℕ) → x <ℤ pos 0 → quotZ (x +ℤ pos 1) (pos w) -ℤ pos 1 ≡ floor x (pos w)
+unfolding floor
+quot-below (pos a) w h = absurd (omega za)
+quot-below (negsuc zero) w h = omega (za, div-le-self 0 w, sub# (pos (0 / w)) (pos 1))
+quot-below (negsuc (suc a)) w h =
+    let next : negsuc (suc a) +ℤ pos 1 ≡ negsuc a = omega (za, add# (negsuc (suc a)) (pos 1)) in
+    rw next (omega (za, neg# (pos (suc a / w)), sub# (negℤ (pos (suc a / w))) (pos 1)))
 
 -- a position counted from 1, less 1, as an index of n entries
 pub record Index (n : ℕ) (u : ℤ) : Type 0 where

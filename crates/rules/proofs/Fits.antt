@@ -6,7 +6,7 @@ use mathlib.Core.List.{List}
 use lib.IntN.{ℤ, pos, negsuc}
 use lib.ListN.{length}
 use borrow.Author.Tests.{not-false}
-use Rattle.ints.specs.Range.{outside, Within, or-false, outside-false, eqZ-true}
+use Rattle.ints.specs.Range.{outside, Within, or-false, outside-false, within-false, eqZ-true}
 use Rattle.rules.specs.declared.Point.{Point}
 use Rattle.rules.specs.Verdict.{accepted}
 use Rattle.rules.specs.Calendar.{monthOfYear, impossibleMonth}
@@ -39,6 +39,10 @@ pub possible : (m : ℤ) → impossibleMonth m ≡ false → Possible m
 unfolding impossibleMonth
 possible m e = let f = or-false _ _ e in record { year = outside-false _ _ _ (f .0); mm = outside-false _ _ _ (f .1) }
 
+pub not-impossible : {m : ℤ} → Possible m → impossibleMonth m ≡ false
+unfolding impossibleMonth
+not-impossible p = rw (within-false _ _ _ (p .year), within-false _ _ _ (p .mm))
+
 -- the agent line at the position k, from 1
 pub record AgentFits (k : ℕ) (a : Agent) : Type 0 where
   pub number : a .number ≡ pos k
@@ -67,6 +71,18 @@ agent-fits k a e =
       pa = outside-false _ _ _ (e₅ .1);
       ret = outside-false _ _ _ (e₆ .1);
     }
+
+-- its amounts, whatever its number
+pub record AmountsFit (a : Agent) : Type 0 where
+  pub pb : Amount (a .pb)
+  pub pv : Amount (a .pv)
+  pub afs : Amount (a .afs)
+  pub rfs : Amount (a .rfs)
+  pub pa : Correction (a .pa)
+  pub ret : Correction (a .ret)
+
+pub amounts-fit : {k : ℕ} {a : Agent} → AgentFits k a → AmountsFit a
+amounts-fit f = record { pb = f .pb; pv = f .pv; afs = f .afs; rfs = f .rfs; pa = f .pa; ret = f .ret }
 
 -- the user line at the position k, from 1
 pub record UserFits (k : ℕ) (u : User) : Type 0 where

@@ -4,10 +4,15 @@ ghost use Prim.Native.Nat.{_*_, _≤_, _<_};
 ghost use lib.IntN.{pos, _*ℤ_};
 ghost use Rattle.ints.specs.Bridge.{abs};
 ghost use Rattle.ints.specs.Floor.{floor};
+ghost use Rattle.ints.specs.Rest.{Split};
 ghost use Rattle.wide.specs.Exact.{divided};
 ghost use Rattle.share.specs.Answer.{shared, badSums, seenByC};
 ghost use Rattle.share.specs.Running.{runningShare};
 ghost use Rattle.share.specs.Filling.{Fillable};
+ghost use Rattle.share.specs.Exact.{beyond, floored};
+
+pub mod weights;
+
 use wide::Divided;
 use wide::Ratio;
 
@@ -22,11 +27,18 @@ pub enum Shared {
     BadSums,
 }
 
-// a × t over w: t is at most w, so the quotient is at most a.
+// a × t over w: t is at most w, so the quotient is at most a. A product of one word, as most are, takes one plain division.
 fn scaled(a: u64, t: u64, w: u64) -> Divided
     requires { ⌜ (t ≤ w) × (0 < w) ⌝ }
     ensures { λ r. ⌜ r ≡ divided (a * t) w ⌝ }
 {
+    let n = wide::product::multiply(a, t);
+    if n.high == 0 {
+        return Divided {
+            quot: n.low / w,
+            rem: n.low % w,
+        };
+    }
     let r = wide::quotient::of_product(a, t, w);
     match r {
         Ratio::Exact(d) => d,
@@ -35,21 +47,89 @@ fn scaled(a: u64, t: u64, w: u64) -> Divided
     }
 }
 
-// p × t over w rounded down. What is below 0 goes by its size, and a remainder takes it one further down.
+// A size over w: whole times w and part, and part over w as a fraction of 2^63.
+pub struct Rate {
+    pub size: u64,
+    pub whole: u64,
+    pub part: u64,
+    pub fraction: u64,
+}
+
+// p × t over w: the quotient rounded down, and what is left over.
+pub struct Floored {
+    pub quot: i64,
+    pub rem: u64,
+}
+
+// An amount's size.
+pub fn size(p: i64) -> u64
+    requires { ⌜ abs p ≤ 100000000000000000 ⌝ }
+    ensures { λ r. ⌜ r ≡ abs p ⌝ }
+{
+    if p < 0 {
+        return (-p) as u64;
+    }
+    p as u64
+}
+
+// p × t over w, from d, that of p's size: what is below 0 goes by its size, and a remainder takes it one further down.
+pub fn signed(p: i64, t: u64, w: u64, d: Divided) -> Floored
+    requires { ⌜ (abs p ≤ 100000000000000000) × (t ≤ w) × (0 < w) × (d ≡ divided (abs p * t) w) ⌝ }
+    ensures { λ r. ⌜ Split (p *ℤ pos t) w (r .quot) (r .rem) ⌝ }
+{
+    let q = d.quot as i64;
+    let m = d.rem;
+    if p < 0 {
+        if m == 0 {
+            return Floored { quot: -q, rem: 0 };
+        }
+        return Floored {
+            quot: -q - 1,
+            rem: w - m,
+        };
+    }
+    Floored { quot: q, rem: m }
+}
+
+// p × t over w.
+fn split(p: i64, t: u64, w: u64) -> Floored
+    requires { ⌜ (abs p ≤ 100000000000000000) × (t ≤ w) × (0 < w) ⌝ }
+    ensures { λ r. ⌜ Split (p *ℤ pos t) w (r .quot) (r .rem) ⌝ }
+{
+    let d = scaled(size(p), t, w);
+    signed(p, t, w, d)
+}
+
+// Whether p, t and w break the limits of `floor_with_rest`.
+fn beyond(p: i64, t: u64, w: u64) -> bool
+    ensures { λ r. ⌜ r ≡ beyond p t w ⌝ }
+{
+    if ints::outside(-LIMIT, LIMIT, p) {
+        return true;
+    }
+    if w < t {
+        return true;
+    }
+    w == 0
+}
+
+// p × t over w rounded down, and what is left over; zeros where p is out of its limit, t above w or w 0.
+pub fn floor_with_rest(p: i64, t: u64, w: u64) -> Floored
+    ensures { λ r. ⌜ r ≡ floored p t w ⌝ }
+{
+    if beyond(p, t, w) {
+        return Floored { quot: 0, rem: 0 };
+    }
+    split(p, t, w)
+}
+
+// p × t over w rounded down.
 fn floor_of(p: i64, t: u64, w: u64) -> i64
     requires { ⌜ (abs p ≤ 100000000000000000) × (t ≤ w) × (0 < w) ⌝ }
     ensures { λ r. ⌜ r ≡ floor (p *ℤ pos t) (pos w) ⌝ }
 {
-    if p < 0 {
-        let d = scaled((-p) as u64, t, w);
-        let q = d.quot as i64;
-        if d.rem == 0 {
-            return -q;
-        }
-        return -q - 1;
-    }
-    let d = scaled(p as u64, t, w);
-    d.quot as i64
+    let f = split(p, t, w);
+    f.quot
 }
 
 // Whether the sums break 0 <= before <= through <= w.

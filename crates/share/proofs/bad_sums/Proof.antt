@@ -1,6 +1,4 @@
 -- The three tests in turn.
-use mathlib.Core.Path.{_≡_, sym}
-use mathlib.Core.Bool.{Bool, true, false, _||_}
 use mir.Facts.{toZ-ofZ}
 use Rattle.share.proofs.bad_sums.Statement.{statement}
 use Rattle.share.proofs.bad_sums.Tie as tie

@@ -1,176 +1,20 @@
--- A size goes through the natural quotient q and remainder m; below 0 the floor is −q, or one less where m is not 0.
-use Prim.Native.Nat.{ℕ, _+_, _*_, _≤_, _<_}
-use native.Mathlib.Omega.{arith}
-use native.Mathlib.Nat.{mul-le-mul-left, le-of-mul-le-mul-right, le-trans, le-add-left, le-add-right, div-add-mod', mod-lt, pos-of-ne-zero}
-use mathlib.Core.Path.{_≡_, ap, _∙_}
+-- The quotient of `split`.
 use borrow.Author.Needs.{needs}
-use lib.IntN.{ℤ, pos, natAbs, _+ℤ_, _-ℤ_, _*ℤ_}
 use mir.Syntax.{w64}
-use mir.Val.{SFits, toZ}
-use mir.Facts.{toZ-ofZ, toZ-pos}
-use Rattle.ints.specs.Bridge.{up, dn, abs, abs-is, za, add#, sub#, mul#, one#}
-use Rattle.ints.specs.Floor.{floor, floor-out, floor-eq}
-use Rattle.ints.specs.Words.{back, back#}
-use Rattle.wide.specs.declared.Divided.{Divided}
-use Rattle.wide.specs.Exact.{divided}
+use mir.Val.{SFits}
+use mir.Facts.{toZ-ofZ}
+use Rattle.ints.specs.Rest.{quot-is}
 use Rattle.share.proofs.floor_of.Statement.{statement}
 use Rattle.share.proofs.floor_of.Tie as tie
 
--- ---- the three answers, in plain numbers
-above : (p : ℤ) (t w q m : ℕ) → dn p ≡ 0 → q * w + m ≡ up p * t → m < w → pos q ≡ floor (p *ℤ pos t) (pos w)
-above p t w q m z e l = let k : 0 < w = omega arith in floor-eq k (floor-out (omega (arith, mul# p (pos t), ap (λ (n : ℕ). n * t) z)))
-
-whole : (p : ℤ) (t w q : ℕ) → up p ≡ 0 → 0 < w → q * w ≡ dn p * t → (pos 0 -ℤ pos q) ≡ floor (p *ℤ pos t) (pos w)
-whole p t w q z l e = floor-eq l (floor-out (omega (arith, mul# p (pos t), ap (λ (n : ℕ). n * t) z, ap (λ (n : ℕ). n * w) (sub# (pos 0) (pos q) .sum))))
-
-broken : (p : ℤ) (t w q m : ℕ) → up p ≡ 0 → q * w + m ≡ dn p * t → m < w → 0 < m → (pos 0 -ℤ pos q -ℤ pos 1) ≡ floor (p *ℤ pos t) (pos w)
-broken p t w q m z e l k =
-    let j : 0 < w = omega arith in
-    floor-eq j
-    (floor-out
-    (omega (arith, mul# p (pos t), ap (λ (n : ℕ). n * t) z, ap (λ (n : ℕ). n * w) (sub# (pos 0) (pos q) .sum), ap (λ (n : ℕ). n * w) (sub# (pos 0 -ℤ pos q) (pos 1) .sum))))
-
--- what `scaled` tells of its quotient and remainder
-record Parts (a t w : ℕ) (d : Divided) : Type 0 where
-  sum : d .quot * w + d .rem ≡ a * t
-  small : d .rem < w
-  quot-le : d .quot ≤ a
-
-parts : (a t w : ℕ) (d : Divided) → t ≤ w → 0 < w → d ≡ divided (a * t) w → Parts a t w d
-parts a t w d h z e =
-    let f : d .quot * w + d .rem ≡ a * t = rw e (div-add-mod' (a * t) w) in
-    record { sum = f; small = rw e (mod-lt (a * t) z); quot-le = le-of-mul-le-mul-right {k = w} (omega (arith, mul-le-mul-left a h)) z }
-
-exact : (q w m n : ℕ) → q * w + m ≡ n → m ≡ 0 → q * w ≡ n
-exact q w m n e z = omega arith
-
--- ---- at the places of the code
-below-zero : (c : tie.Then1) → up (c .before .args .p) ≡ 0
-below-zero c = omega (za, back# (c .before .fits .p), one# (c .before .args .p))
-
-not-below : (c : tie.Else1) → dn (c .before .args .p) ≡ 0
-not-below c = omega (za, back# (c .before .fits .p))
-
-neg-fits : (c : tie.Then1) → SFits w64 (pos 0 -ℤ c .before .args .p)
-neg-fits c = omega (za, sub# (pos 0) (c .before .args .p))
-
-size-below : (c : tie.Then1) → natAbs (back (pos 0 -ℤ back (c .before .args .p))) ≡ dn (c .before .args .p)
-size-below c =
-    simp (toZ-ofZ, c .before .fits .p, neg-fits c)
-    (omega (arith, below-zero c, abs-is (pos 0 -ℤ c .before .args .p), sub# (pos 0) (c .before .args .p)))
-
-size-above : (c : tie.Else1) → natAbs (back (c .before .args .p)) ≡ up (c .before .args .p)
-size-above c = simp (toZ-ofZ, c .before .fits .p) (omega (arith, not-below c, abs-is (c .before .args .p)))
-
-known : (c : tie.After-scaled) → Parts (dn (c .before .before .args .p)) (c .before .before .args .t) (c .before .before .args .w) (c .scaled .result)
-known c =
-    let s = c .before .before in
-    parts _ _ _ (c .scaled .result) (s .pre .1) (s .pre .2) (c .scaled .ensures ∙ ap (λ (n : ℕ). divided (n * s .args .t) (s .args .w)) (size-below (c .before)))
-
-known2 : (c : tie.After-scaled2) → Parts (up (c .before .before .args .p)) (c .before .before .args .t) (c .before .before .args .w) (c .scaled2 .result)
-known2 c =
-    let s = c .before .before in
-    parts _ _ _ (c .scaled2 .result) (s .pre .1) (s .pre .2) (c .scaled2 .ensures ∙ ap (λ (n : ℕ). divided (n * s .args .t) (s .args .w)) (size-above (c .before)))
-
--- a quotient of at most 10^17, and its negation
-quot-small : (c : tie.After-scaled) → c .scaled .result .quot ≤ 100000000000000000
-quot-small c = le-trans (known c .quot-le) (le-trans (le-add-left _ _) (c .before .before .pre .0))
-
-minus : (q : ℕ) → q ≤ 100000000000000000 → SFits w64 (pos 0 -ℤ pos q)
-minus q h = omega (za, sub# (pos 0) (pos q))
-
--- one step away: which step the code takes is for `broken` to judge
-minus-step : (q : ℕ) (d : ℤ) → q ≤ 100000000000000000 → abs d ≤ 1 → SFits w64 (pos 0 -ℤ pos q +ℤ d)
-minus-step q d h l = omega (za, sub# (pos 0) (pos q), add# (pos 0 -ℤ pos q) d)
-
-minus-one : (q : ℕ) → q ≤ 100000000000000000 → SFits w64 (pos 0 -ℤ pos q -ℤ pos 1)
-minus-one q h = minus-step q _ h (omega arith)
-
-word : (q : ℕ) → q ≤ 100000000000000000 → toZ w64 q ≡ pos q
-word q h = toZ-pos w64 {n = q} (omega arith)
-
-sub-scaled : tie.Need-sub-scaled
-sub-scaled c = simp (toZ-ofZ, c .before .fits .p) (neg-fits c)
-
-cast-scaled : tie.Need-cast-scaled
-cast-scaled c = simp (toZ-ofZ, c .before .fits .p, neg-fits c) (omega (za, below-zero c, sub# (pos 0) (c .before .args .p)))
-
-scaled-requires : tie.Need-scaled-requires
-scaled-requires c κs = search needs
-
-cast-q : tie.Need-cast-q
-cast-q c = omega (za, quot-small (c .before))
-
-sub-result : tie.Need-sub-result
-sub-result c =
-    let l = quot-small (c .before .before .before) in
-    simp (word _ l) (minus _ l)
+split-requires : tie.Need-split-requires
+split-requires c κs = search needs
 
 returns : tie.Need-returns
 returns c =
-    let d = c .before .before .before in
-    let s = d .before .before in
-    let q = d .scaled .result .quot in
-    let l = quot-small d in
-    let k = known d in
-    simp (word q l, toZ-ofZ, minus q l)
-    (whole (s .args .p) (s .args .t) (s .args .w) q (below-zero (d .before)) (s .pre .2) (exact _ _ _ _ (k .sum) (c .if2 .taken)))
-
-sub-result-2 : tie.Need-sub-result-2
-sub-result-2 c =
-    let l = quot-small (c .before .before .before) in
-    simp (word _ l) (minus _ l)
-
-sub-result-3 : tie.Need-sub-result-3
-sub-result-3 c =
-    let l = quot-small (c .before .before .before) in
-    simp (word _ l, toZ-ofZ, minus _ l) (minus-step _ _ l (omega arith))
-
-returns-2 : tie.Need-returns-2
-returns-2 c =
-    let d = c .before .before .before in
-    let s = d .before .before in
-    let q = d .scaled .result .quot in
-    let l = quot-small d in
-    let k = known d in
-    simp (word q l, toZ-ofZ, minus q l, minus-one q l)
-    (broken (s .args .p) (s .args .t) (s .args .w) q (d .scaled .result .rem) (below-zero (d .before)) (k .sum) (k .small) (pos-of-ne-zero (c .if2 .left)))
-
-cast-scaled-2 : tie.Need-cast-scaled-2
-cast-scaled-2 c = simp (toZ-ofZ, c .before .fits .p) (omega (za, not-below c))
-
-scaled-requires-2 : tie.Need-scaled-requires-2
-scaled-requires-2 c κs = search needs
-
-quot-small2 : (c : tie.After-scaled2) → c .scaled2 .result .quot ≤ 100000000000000000
-quot-small2 c = le-trans (known2 c .quot-le) (le-trans (le-add-right _ _) (c .before .before .pre .0))
-
-cast-result : tie.Need-cast-result
-cast-result c = omega (za, quot-small2 (c .before))
-
-returns-3 : tie.Need-returns-3
-returns-3 c =
-    let d = c .before in
-    let s = d .before .before in
-    let q = d .scaled2 .result .quot in
-    let k = known2 d in
-    simp (word q (quot-small2 d))
-    (above (s .args .p) (s .args .t) (s .args .w) q (d .scaled2 .result .rem) (not-below (d .before)) (k .sum) (k .small))
+    let s = c .before .before in
+    let g : SFits w64 (c .before .split .result .quot) = search needs in
+    simp (toZ-ofZ, g) (quot-is (simp (toZ-ofZ, s .fits .p) at (c .before .split .ensures)))
 
 pub floor-of-spec : {M : Type 1} → statement M
-floor-of-spec =
-    tie.close
-    (tie.spec
-    sub-scaled
-    cast-scaled
-    scaled-requires
-    cast-q
-    sub-result
-    returns
-    sub-result-2
-    sub-result-3
-    returns-2
-    cast-scaled-2
-    scaled-requires-2
-    cast-result
-    returns-3)
+floor-of-spec = tie.close (tie.spec split-requires returns)

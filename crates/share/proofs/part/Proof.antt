@@ -1,23 +1,21 @@
 -- The refusals in their order; past them both floors are no larger than the amount, so their difference is a word.
-use Prim.Native.Nat.{ℕ, _+_, _*_, _≤_, _<_}
-use native.Mathlib.Omega.{arith}
+use Prim.Native.Nat.{ℕ, _*_, _≤_, _<_}
 use native.Mathlib.Nat.{le-trans}
-use mathlib.Core.Path.{_≡_, sym, ap, ap₂, _∙_}
+use mathlib.Core.Path.{_≡_, sym, _∙_}
 use mathlib.Core.Bool.{true, false, _||_}
 use borrow.Author.Needs.{needs}
 use lib.Dec.{T}
-use lib.IntN.{ℤ, pos, negsuc, natAbs, _-ℤ_, _*ℤ_}
+use lib.IntN.{ℤ, pos, natAbs, _-ℤ_, _*ℤ_}
 use lib.Signed.{ltZ, nonNeg, _≤ℤ_}
 use mir.Syntax.{w64}
 use mir.Val.{SFits, Fits}
 use mir.Facts.{toZ-ofZ}
 use Rattle.ints.specs.Bridge.{abs, abs-is, za, sub#, above#}
 use Rattle.ints.specs.Order.{abs-le, ≤-trans}
-use Rattle.ints.specs.Range.{Within, outside-false, or-false}
+use Rattle.ints.specs.Range.{outside-false, or-false}
 use Rattle.ints.specs.Floor.{floor, floor-is, share-small}
 use Rattle.share.specs.Running.{part}
 use Rattle.share.specs.Answer.{badAmount, badTotal, badSums, shared}
-use Rattle.share.specs.declared.Shared.{Shared}
 use Rattle.share.specs.declared.Shared.the-variants.{Part, BadAmount, BadTotal, BadSums}
 use Rattle.share.proofs.part.Statement.{statement}
 use Rattle.share.proofs.part.Tie as tie

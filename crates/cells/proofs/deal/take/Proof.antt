@@ -1,0 +1,182 @@
+-- Each mark keeps every total; the cell of row i and column j lies in the table.
+use Prim.Native.Nat.{_+_, _*_, _≤_, _<_, _-_, _^_}
+use native.Mathlib.Omega.{arith}
+use lib.ListN.{length}
+use Rattle.cells.specs.Marks.{below}
+use Rattle.cells.specs.Kept.{Kept, kept-none, kept-then, kept-mark}
+use Rattle.cells.proofs.deal.take.Statement.{statement}
+use Rattle.cells.proofs.deal.take.Tie as tie
+
+abbrev Inv-loop : tie.InvT-loop
+Inv-loop marks₀ lacks₀ wants₀ i least m n j₀ marks lacks wants j = (j ≤ n) × Kept m n marks₀ lacks₀ wants₀ marks lacks wants
+
+abbrev μ-loop : tie.MeasureT-loop
+μ-loop marks₀ lacks₀ wants₀ i least m n j₀ marks lacks wants j = n - j
+
+-- the cell of row i and column j, and its place in each slice
+record Here (c : tie.In-loop Inv-loop μ-loop) : Type 0 where
+  cell : c .before .before .args .i * length (c .before .before .args .wants .now) + c .before .loop .j < length (c .before .loop .marks)
+  place : (c .before .before .args .i * length (c .before .before .args .wants .now) + c .before .loop .j) * 8 < 2 ^ 63
+  column : c .before .loop .j < length (c .before .loop .wants)
+  row : c .before .before .args .i < length (c .before .loop .lacks)
+
+here : (c : tie.In-loop Inv-loop μ-loop) → Here c
+here c =
+    let s = c .before .before in
+    let k = c .before .loop .inv .1 in
+    let b = below (s .pre .1) (c .loop-test .taken) in record {
+      cell = omega (arith, b, s .pre .0 .cells, k .cells);
+      place = omega (arith, b, s .pre .0 .cells, s .good);
+      column = omega (arith, k .wide);
+      row = omega (arith, k .tall);
+    }
+
+loop-holds : tie.Need-loop-holds Inv-loop μ-loop
+loop-holds c = (omega arith, kept-none _ _ _)
+
+add-j : tie.Need-add-j Inv-loop μ-loop
+add-j c = omega arith
+
+mul-if1 : tie.Need-mul-if1 Inv-loop μ-loop
+mul-if1 c = omega arith
+
+slice-read-if1 : tie.Need-slice-read-if1 Inv-loop μ-loop
+slice-read-if1 c = here (c .before) .column
+
+mul-if2 : tie.Need-mul-if2 Inv-loop μ-loop
+mul-if2 c = omega (arith, here (c .before .before))
+
+add-if2 : tie.Need-add-if2 Inv-loop μ-loop
+add-if2 c = omega (arith, here (c .before .before))
+
+mul-if2-2 : tie.Need-mul-if2-2 Inv-loop μ-loop
+mul-if2-2 c = omega (arith, here (c .before .before))
+
+slice-read-if2 : tie.Need-slice-read-if2 Inv-loop μ-loop
+slice-read-if2 c = here (c .before .before .before) .cell
+
+mul-if3 : tie.Need-mul-if3 Inv-loop μ-loop
+mul-if3 c = omega (arith, here (c .before .before .before .before))
+
+slice-read-if3 : tie.Need-slice-read-if3 Inv-loop μ-loop
+slice-read-if3 c = here (c .before .before .before .before .before) .row
+
+mul-marks : tie.Need-mul-marks Inv-loop μ-loop
+mul-marks c = omega (arith, here (c .before .before .before .before .before .before))
+
+add-marks : tie.Need-add-marks Inv-loop μ-loop
+add-marks c = omega (arith, here (c .before .before .before .before .before .before))
+
+mul-marks-2 : tie.Need-mul-marks-2 Inv-loop μ-loop
+mul-marks-2 c = omega (arith, here (c .before .before .before .before .before .before))
+
+slice-write-marks : tie.Need-slice-write-marks Inv-loop μ-loop
+slice-write-marks c = here (c .before .before .before .before .before .before) .cell
+
+mul-wants : tie.Need-mul-wants Inv-loop μ-loop
+mul-wants c = omega (arith, here (c .before .before .before .before .before .before))
+
+slice-read-wants : tie.Need-slice-read-wants Inv-loop μ-loop
+slice-read-wants c = here (c .before .before .before .before .before .before .before) .column
+
+sub-wants : tie.Need-sub-wants Inv-loop μ-loop
+sub-wants c = omega (arith, c .before .before .before .before .before .if1 .taken, c .before .before .before .before .before .before .before .before .before .pre .2)
+
+slice-write-wants : tie.Need-slice-write-wants Inv-loop μ-loop
+slice-write-wants c = here (c .before .before .before .before .before .before .before) .column
+
+mul-lacks : tie.Need-mul-lacks Inv-loop μ-loop
+mul-lacks c = omega (arith, here (c .before .before .before .before .before .before .before))
+
+slice-read-lacks : tie.Need-slice-read-lacks Inv-loop μ-loop
+slice-read-lacks c = here (c .before .before .before .before .before .before .before .before) .row
+
+sub-lacks : tie.Need-sub-lacks Inv-loop μ-loop
+sub-lacks c = c .before .before .if3 .taken
+
+slice-write-lacks : tie.Need-slice-write-lacks Inv-loop μ-loop
+slice-write-lacks c = here (c .before .before .before .before .before .before .before .before) .row
+
+loop-less : tie.Need-loop-less Inv-loop μ-loop
+loop-less c = omega arith
+
+loop-again : tie.Need-loop-again Inv-loop μ-loop
+loop-again c =
+    let l = c .before .before .before .before .before .before .before .before in
+    let s = l .before .before in
+    let h = here l in (
+      omega (arith, l .loop-test .taken),
+      kept-then (l .before .loop .inv .1)
+          (kept-mark _ _ _ (s .args .i) (l .before .loop .j) (s .pre .1) (l .loop-test .taken) (h .cell) (h .row) (h .column) (c .before .before .before .before .if2 .taken) (c .before .before .if3 .taken) (omega (arith, c .before .before .before .before .before .before .if1 .taken, s .pre .2))),
+    )
+
+loop-less-2 : tie.Need-loop-less-2 Inv-loop μ-loop
+loop-less-2 c = omega arith
+
+loop-again-2 : tie.Need-loop-again-2 Inv-loop μ-loop
+loop-again-2 c = (omega (arith, c .before .before .before .before .before .before .loop-test .taken), c .before .before .before .before .before .before .before .loop .inv .1)
+
+loop-less-3 : tie.Need-loop-less-3 Inv-loop μ-loop
+loop-less-3 c = omega arith
+
+loop-again-3 : tie.Need-loop-again-3 Inv-loop μ-loop
+loop-again-3 c = (omega (arith, c .before .before .before .before .loop-test .taken), c .before .before .before .before .before .loop .inv .1)
+
+loop-less-4 : tie.Need-loop-less-4 Inv-loop μ-loop
+loop-less-4 c = omega arith
+
+loop-again-4 : tie.Need-loop-again-4 Inv-loop μ-loop
+loop-again-4 c = (omega (arith, c .before .before .loop-test .taken), c .before .before .before .loop .inv .1)
+
+same-length : tie.Need-same-length Inv-loop μ-loop
+same-length c = c .before .loop .inv .1 .cells
+
+same-length-2 : tie.Need-same-length-2 Inv-loop μ-loop
+same-length-2 c = c .before .loop .inv .1 .tall
+
+same-length-3 : tie.Need-same-length-3 Inv-loop μ-loop
+same-length-3 c = c .before .loop .inv .1 .wide
+
+returns : tie.Need-returns Inv-loop μ-loop
+returns c = c .before .loop .inv .1
+
+pub take-spec : {M : Type 1} → statement M
+take-spec =
+    tie.close
+    (tie.spec
+    Inv-loop
+    μ-loop
+    loop-holds
+    add-j
+    mul-if1
+    slice-read-if1
+    mul-if2
+    add-if2
+    mul-if2-2
+    slice-read-if2
+    mul-if3
+    slice-read-if3
+    mul-marks
+    add-marks
+    mul-marks-2
+    slice-write-marks
+    mul-wants
+    slice-read-wants
+    sub-wants
+    slice-write-wants
+    mul-lacks
+    slice-read-lacks
+    sub-lacks
+    slice-write-lacks
+    loop-less
+    loop-again
+    loop-less-2
+    loop-again-2
+    loop-less-3
+    loop-again-3
+    loop-less-4
+    loop-again-4
+    same-length
+    same-length-2
+    same-length-3
+    returns)

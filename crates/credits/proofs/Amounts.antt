@@ -1,0 +1,79 @@
+-- Bounds of the numbers on the way to the credits, from no more than what the credits ask.
+use Prim.Native.Nat.{ℕ, _+_, _*_, _^_, _≤_, _<_}
+use native.Mathlib.Omega.{arith}
+use native.Mathlib.Nat.{le-trans}
+use mathlib.Core.Path.{_≡_, refl, sym, _∙_}
+use mathlib.Core.Bool.{false}
+use mathlib.Core.List.{List, map}
+use lib.Dec.{T, leb}
+use lib.IntN.{ℤ, pos, _+ℤ_, _-ℤ_}
+use lib.ListN.{length, getD, length-map}
+use lib.Signed.{_≤ℤ_, _<ℤ_}
+use Rattle.ints.specs.Bridge.{abs, za}
+use Rattle.ints.specs.Bounds.{Word, word, word-abs, word-wide, word-sub, Words, words-nonneg, word-total, word-sum}
+use Rattle.ints.specs.Sums.{sumℤ, Small}
+use Rattle.share.specs.Running.{runningShare}
+use Rattle.share.specs.Filling.{Fillable}
+use Rattle.share.specs.Laws.{length-share, parts-small}
+use Rattle.rules.specs.Calendar.{impossibleMonth, cycleMonth}
+use Rattle.rules.specs.Lines.{Agent}
+use Rattle.rules.specs.Credits.{ownCredit}
+use Rattle.rules.proofs.Fits.{possible}
+use Rattle.rules.proofs.Cycle.{cycle-within}
+use Rattle.rules.proofs.BoundsAgent.{agent-bounds, amount}
+use Rattle.rules.proofs.BoundsSums.{column}
+use Rattle.credits.specs.Columns.{AgentLines}
+use Rattle.credits.specs.Payable.{Payable, balanceOf}
+
+small-of : {L H : ℕ} (K : ℕ) {xs : List ℤ} → Words L H xs → T (leb L K) → T (leb H K) → Small K xs
+small-of K w l h = record { small = λ i k. word-abs (word-wide K K (w .at i k) l h) }
+
+module _ {agents : List Agent} (l : AgentLines agents) where
+  few : (f : Agent → ℤ) → length (map f agents) ≤ 256
+  few f = rw length-map (l .few)
+
+  pb-words : Words 0 100000000000 (map (λ (a : Agent). a .pb) agents)
+  pb-words = column (λ (a : Agent). a .pb) agents (λ i h. amount (l .line i h .pb))
+
+  pub pb-small : Small 400000000000 (map (λ (a : Agent). a .pb) agents)
+  pb-small = small-of 400000000000 pb-words tt tt
+
+  pb-total : Word 0 25600000000000 (sumℤ (map (λ (a : Agent). a .pb) agents))
+  pb-total = word-sum 100000000000 256 _ pb-words (few _) tt
+
+  pub pv-small : Small 400000000000 (map (λ (a : Agent). a .pv) agents)
+  pv-small = small-of 400000000000 (column (λ (a : Agent). a .pv) agents (λ i h. amount (l .line i h .pv))) tt tt
+
+  module _ (month : ℤ) (p : impossibleMonth month ≡ false) where
+    own-words : Words 400000000000 400000000000 (map (ownCredit month) agents)
+    unfolding ownCredit
+    own-words = column (ownCredit month) agents (λ i h. agent-bounds (cycleMonth month) (cycle-within month (possible month p)) (l .line i h) .own)
+
+    pub own-small : Small 400000000000 (map (ownCredit month) agents)
+    own-small = small-of 400000000000 own-words tt tt
+
+    pub own-total : Word 102400000000000 102400000000000 (sumℤ (map (ownCredit month) agents))
+    own-total = word-total 400000000000 256 _ own-words (few _) tt
+
+module _ {month ons debits : ℤ} {agents : List Agent} (p : Payable month ons debits agents) where
+  owed : Word 0 1689600000000000 debits
+  owed = let w = p .owed in word (omega za) (omega za) tt
+
+  balance : Word 102500000000000 1792000000000000 (balanceOf month ons debits agents)
+  unfolding balanceOf
+  balance = word-sub (word-sub owed (own-total (p .lines) month (p .possible)) tt) (amount (p .fee)) tt
+
+  pub fillable : {parts : List ℤ} → length parts ≡ length agents → Fillable (balanceOf month ons debits agents) (sumℤ (map (λ (a : Agent). a .pb) agents)) (map (λ (a : Agent). a .pb) agents) parts
+  fillable e = record {
+    amount = le-trans (word-abs (word-wide 1792000000000000 1792000000000000 balance tt tt)) (omega arith);
+    weights = words-nonneg (pb-words (p .lines));
+    sum = refl;
+    some = let h = p .weighed in omega za;
+    most = let h = pb-total (p .lines) in omega za;
+    long = e ∙ sym (rw length-map refl);
+  }
+
+  pub parts-within : Small 1792000000000000 (runningShare (balanceOf month ons debits agents) (map (λ (a : Agent). a .pb) agents))
+  parts-within =
+      let s = parts-small (balanceOf month ons debits agents) _ (words-nonneg (pb-words (p .lines))) (p .weighed) in
+      record { small = λ i h. le-trans (s .small i h) (word-abs (word-wide 1792000000000000 1792000000000000 balance tt tt)) }

@@ -1,0 +1,3 @@
+-- `Amounts` are the bounds of the numbers on the way to the credits; `Tested` leads from closing's tests to what the credits ask.
+pub mod Amounts
+pub mod Tested

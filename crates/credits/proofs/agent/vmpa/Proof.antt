@@ -1,0 +1,65 @@
+-- Every number on the way is within rules' bounds of what falls due.
+use mathlib.Core.Path.{_≡_, sym, ap, _∙_}
+use borrow.Author.Needs.{needs}
+use lib.IntN.{ℤ, pos, _-ℤ_, _*ℤ_}
+use mir.Syntax.{w64}
+use mir.Val.{SFits}
+use mir.Facts.{toZ-ofZ}
+use Rattle.ints.specs.Floor.{floor}
+use Rattle.rules.specs.Lines.{Agent}
+use Rattle.rules.specs.Credits.{VMPA}
+use Rattle.rules.proofs.BoundsAgent.{DueBounds, due-bounds}
+use Rattle.credits.proofs.agent.vmpa.Statement.{statement}
+use Rattle.credits.proofs.agent.vmpa.Tie as tie
+
+bounds : (s : tie.Start) → DueBounds (s .args .c) (s .args .pa)
+bounds s = due-bounds (s .args .c) (s .pre .0) (s .pre .1)
+
+mul-floor-12 : tie.Need-mul-floor-12
+mul-floor-12 c = simp (toZ-ofZ, c .fits .c, c .fits .pa) (bounds c .due .fits)
+
+floor-12-requires : tie.Need-floor-12-requires
+floor-12-requires c κs = search needs
+
+due-is : (c : tie.After-floor-12) → let a = c .before .args in c .floor-12 .result ≡ floor (a .pa *ℤ a .c) (pos 12)
+due-is c = let s = c .before in simp (toZ-ofZ, s .fits .c, s .fits .pa, bounds s .due .fits) at (c .floor-12 .ensures)
+
+sub-floor-12 : tie.Need-sub-floor-12
+sub-floor-12 c = let s = c .before in simp (toZ-ofZ, s .fits .c) (bounds s .month-before .fits)
+
+mul-floor-12-2 : tie.Need-mul-floor-12-2
+mul-floor-12-2 c =
+    let s = c .before in
+    simp (toZ-ofZ, s .fits .c, s .fits .pa, bounds s .month-before .fits) (bounds s .due-before .fits)
+
+floor-12-requires-2 : tie.Need-floor-12-requires-2
+floor-12-requires-2 c κs = search needs
+
+before-is : (c : tie.After-floor-122) → let a = c .before .before .args in c .floor-122 .result ≡ floor (a .pa *ℤ (a .c -ℤ pos 1)) (pos 12)
+before-is c =
+    let s = c .before .before in
+    let b = bounds s in
+    simp (toZ-ofZ, s .fits .c, s .fits .pa, b .month-before .fits, b .due-before .fits) at (c .floor-122 .ensures)
+
+sub-result : tie.Need-sub-result
+sub-result c =
+    let b = bounds (c .before .before) in
+    simp (due-is (c .before), before-is c, toZ-ofZ, b .floor-due .fits, b .floor-before .fits) (b .VMPA .fits)
+
+returns : tie.Need-returns
+unfolding VMPA
+returns c a e =
+    let b = bounds (c .before .before) in
+    rw e (simp (due-is (c .before), before-is c, toZ-ofZ, b .floor-due .fits, b .floor-before .fits, b .VMPA .fits))
+
+pub vmpa-spec : {M : Type 1} → statement M
+vmpa-spec =
+    tie.close
+    (tie.spec
+    mul-floor-12
+    floor-12-requires
+    sub-floor-12
+    mul-floor-12-2
+    floor-12-requires-2
+    sub-result
+    returns)

@@ -1,0 +1,88 @@
+-- The loop writes the column from its start.
+use Prim.Native.Nat.{ℕ, _-_, _≤_, _<_}
+use native.Mathlib.Omega.{arith}
+use mathlib.Core.Path.{_≡_, refl, sym, ap, _∙_}
+use mathlib.Core.List.{List, [], map}
+use borrow.Author.Needs.{needs}
+use lib.IntN.{ℤ, pos}
+use lib.ListN.{length, getD, set, length-map}
+use mir.Syntax.{w64}
+use mir.Val.{SFits}
+use mir.Facts.{toZ-ofZ}
+use Rattle.ints.specs.Fill.{Filling, filling-none, filling-long, filling-more, filling-all}
+use Rattle.rules.specs.Lists.{getD-map}
+use Rattle.rules.specs.Lines.{Agent, agentOf}
+use Rattle.credits.specs.Columns.{column}
+use Rattle.credits.proofs.columns.column.Statement.{statement}
+use Rattle.credits.proofs.columns.column.Tie as tie
+
+abbrev Inv-loop : tie.InvT-loop
+Inv-loop agents k out₀ n i₀ out i = Filling (column k agents) out₀ out i
+
+abbrev μ-loop : tie.MeasureT-loop
+μ-loop agents k out₀ n i₀ out i = n - i
+
+same : (s : tie.Start Inv-loop μ-loop) → length (column (s .args .k) (s .args .agents .now)) ≡ length (s .args .out .now)
+same s = rw length-map (sym (s .pre .1))
+
+loop-holds : tie.Need-loop-holds Inv-loop μ-loop
+loop-holds c = filling-none _ _
+
+mul-line : tie.Need-mul-line Inv-loop μ-loop
+mul-line c = search needs
+
+shared-slice-copy-out-line : tie.Need-shared-slice-copy-out-line Inv-loop μ-loop
+shared-slice-copy-out-line c = search needs
+
+mul-out : tie.Need-mul-out Inv-loop μ-loop
+mul-out c = search needs
+
+array-copy-out-out : tie.Need-array-copy-out-out Inv-loop μ-loop
+array-copy-out-out c = search needs
+
+mul-t14 : tie.Need-mul-t14 Inv-loop μ-loop
+mul-t14 c = search needs
+
+slice-set-from-out : tie.Need-slice-set-from-out Inv-loop μ-loop
+slice-set-from-out c =
+    let s = c .before .before .before .before in
+    omega (arith, filling-long (same s) (c .before .before .before .loop .inv), s .pre .1)
+
+add-i : tie.Need-add-i Inv-loop μ-loop
+add-i c = search needs
+
+loop-less : tie.Need-loop-less Inv-loop μ-loop
+loop-less c = search needs
+
+loop-again : tie.Need-loop-again Inv-loop μ-loop
+loop-again c =
+    let s = c .before .before .before .before in
+    let b = c .before .before .before .loop in
+    let f : SFits w64 (getD (getD (s .args .agents .now) (b .i) []) (s .args .k) (pos 0)) = search needs in
+    rw (toZ-ofZ f)
+    (filling-more (same s) (b .inv) (pos 0) (omega (arith, s .pre .1)) (sym (getD-map _ (s .args .agents .now) (b .i) [] (pos 0) (c .before .before .loop-test .taken))))
+
+same-length : tie.Need-same-length Inv-loop μ-loop
+same-length c = filling-long (same (c .before .before)) (c .before .loop .inv)
+
+returns : tie.Need-returns Inv-loop μ-loop
+returns c = let s = c .before .before in filling-all (same s) (c .before .loop .inv) (omega (arith, s .pre .1))
+
+pub column-spec : {M : Type 1} → statement M
+column-spec =
+    tie.close
+    (tie.spec
+    Inv-loop
+    μ-loop
+    loop-holds
+    mul-line
+    shared-slice-copy-out-line
+    mul-out
+    array-copy-out-out
+    mul-t14
+    slice-set-from-out
+    add-i
+    loop-less
+    loop-again
+    same-length
+    returns)

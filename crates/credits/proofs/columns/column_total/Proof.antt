@@ -1,0 +1,91 @@
+-- As `total`, of what stands at k in each line.
+use Prim.Native.Nat.{ℕ, _*_, _^_, _-_, _≤_, _<_}
+use native.Mathlib.Omega.{arith}
+use mathlib.Core.Path.{_≡_, sym}
+use mathlib.Core.List.{List, []}
+use borrow.Author.Needs.{needs}
+use lib.IntN.{ℤ, pos, _+ℤ_}
+use lib.ListN.{length, getD, length-map}
+use mir.Syntax.{w64}
+use mir.Val.{SFits, toZ}
+use mir.Facts.{toZ-ofZ}
+use Rattle.ints.specs.Adding.{Added, added-none, added-more, added-fits, added-all}
+use Rattle.rules.specs.Lists.{getD-map}
+use Rattle.credits.specs.Columns.{column}
+use Rattle.credits.proofs.columns.column_total.Statement.{statement}
+use Rattle.credits.proofs.columns.column_total.Tie as tie
+
+abbrev Inv-loop : tie.InvT-loop
+Inv-loop agents k sum₀ i₀ sum i = Added (column k agents) (toZ w64 sum) i
+
+abbrev μ-loop : tie.MeasureT-loop
+μ-loop agents k sum₀ i₀ sum i = length agents - i
+
+loop-holds : tie.Need-loop-holds Inv-loop μ-loop
+loop-holds c = added-none _
+
+mul-line : tie.Need-mul-line Inv-loop μ-loop
+mul-line c = search needs
+
+shared-slice-copy-out-line : tie.Need-shared-slice-copy-out-line Inv-loop μ-loop
+shared-slice-copy-out-line c = search needs
+
+mul-sum : tie.Need-mul-sum Inv-loop μ-loop
+mul-sum c = search needs
+
+array-copy-out-sum : tie.Need-array-copy-out-sum Inv-loop μ-loop
+array-copy-out-sum c = search needs
+
+module _ (c : tie.After-sum Inv-loop μ-loop) where
+  abbrev s : tie.Start Inv-loop μ-loop
+  s = c .before .before .before .before
+
+  abbrev i : ℕ
+  i = c .before .before .before .loop .i
+
+  abbrev entry : ℤ
+  entry = getD (getD (s .args .agents .now) i []) (s .args .k) (pos 0)
+
+  entry-fits : SFits w64 entry
+  entry-fits = search needs
+
+  entry-is : entry ≡ getD (column (s .args .k) (s .args .agents .now)) i (pos 0)
+  entry-is = sym (getD-map _ (s .args .agents .now) i [] (pos 0) (c .before .before .loop-test .taken))
+
+  inside : i < length (column (s .args .k) (s .args .agents .now))
+  inside = rw length-map (c .before .before .loop-test .taken)
+
+  sum-fits : SFits w64 (toZ w64 (c .before .before .before .loop .sum) +ℤ entry)
+  sum-fits = added-fits (c .before .before .before .loop .inv) (s .pre .1) (rw length-map (omega arith)) inside entry-is
+
+add-sum : tie.Need-add-sum Inv-loop μ-loop
+add-sum c = rw (toZ-ofZ (entry-fits c)) (sum-fits c)
+
+add-i : tie.Need-add-i Inv-loop μ-loop
+add-i c = search needs
+
+loop-less : tie.Need-loop-less Inv-loop μ-loop
+loop-less c = search needs
+
+loop-again : tie.Need-loop-again Inv-loop μ-loop
+loop-again c = rw (toZ-ofZ (entry-fits c), toZ-ofZ (sum-fits c)) (added-more (c .before .before .before .loop .inv) (inside c) (entry-is c))
+
+returns : tie.Need-returns Inv-loop μ-loop
+returns c = added-all (c .before .loop .inv) (rw length-map (c .loop-test .left))
+
+pub column-total-spec : {M : Type 1} → statement M
+column-total-spec =
+    tie.close
+    (tie.spec
+    Inv-loop
+    μ-loop
+    loop-holds
+    mul-line
+    shared-slice-copy-out-line
+    mul-sum
+    array-copy-out-sum
+    add-sum
+    add-i
+    loop-less
+    loop-again
+    returns)

@@ -1,0 +1,68 @@
+-- The loop adds up the entries, each small enough that no part's sum leaves 64 bits.
+use Prim.Native.Nat.{ℕ, _*_, _^_, _-_, _≤_, _<_}
+use native.Mathlib.Omega.{arith}
+use mathlib.Core.Path.{_≡_, refl}
+use borrow.Author.Needs.{needs}
+use lib.IntN.{ℤ, pos, _+ℤ_}
+use lib.ListN.{length, getD}
+use mir.Syntax.{w64}
+use mir.Val.{SFits, toZ}
+use mir.Facts.{toZ-ofZ}
+use Rattle.ints.specs.Adding.{Added, added-none, added-more, added-fits, added-all}
+use Rattle.credits.proofs.columns.total.Statement.{statement}
+use Rattle.credits.proofs.columns.total.Tie as tie
+
+abbrev Inv-loop : tie.InvT-loop
+Inv-loop amounts sum₀ i₀ sum i = Added amounts (toZ w64 sum) i
+
+abbrev μ-loop : tie.MeasureT-loop
+μ-loop amounts sum₀ i₀ sum i = length amounts - i
+
+loop-holds : tie.Need-loop-holds Inv-loop μ-loop
+loop-holds c = added-none _
+
+mul-sum : tie.Need-mul-sum Inv-loop μ-loop
+mul-sum c = search needs
+
+shared-slice-copy-out-sum : tie.Need-shared-slice-copy-out-sum Inv-loop μ-loop
+shared-slice-copy-out-sum c = search needs
+
+entry-fits : (c : tie.After-sum Inv-loop μ-loop) → SFits w64 (getD (c .before .before .before .args .amounts .now) (c .before .before .loop .i) (pos 0))
+entry-fits c = search needs
+
+sum-fits : (c : tie.After-sum Inv-loop μ-loop) → SFits w64 (toZ w64 (c .before .before .loop .sum) +ℤ getD (c .before .before .before .args .amounts .now) (c .before .before .loop .i) (pos 0))
+sum-fits c =
+    let p = c .before .before .before .pre in
+    added-fits (c .before .before .loop .inv) (p .0) (omega arith) (c .before .loop-test .taken) refl
+
+add-sum : tie.Need-add-sum Inv-loop μ-loop
+add-sum c = rw (toZ-ofZ (entry-fits c)) (sum-fits c)
+
+add-i : tie.Need-add-i Inv-loop μ-loop
+add-i c = search needs
+
+loop-less : tie.Need-loop-less Inv-loop μ-loop
+loop-less c = search needs
+
+loop-again : tie.Need-loop-again Inv-loop μ-loop
+loop-again c =
+    rw (toZ-ofZ (entry-fits c), toZ-ofZ (sum-fits c))
+    (added-more (c .before .before .loop .inv) (c .before .loop-test .taken) refl)
+
+returns : tie.Need-returns Inv-loop μ-loop
+returns c = added-all (c .before .loop .inv) (c .loop-test .left)
+
+pub total-spec : {M : Type 1} → statement M
+total-spec =
+    tie.close
+    (tie.spec
+    Inv-loop
+    μ-loop
+    loop-holds
+    mul-sum
+    shared-slice-copy-out-sum
+    add-sum
+    add-i
+    loop-less
+    loop-again
+    returns)

@@ -1,0 +1,148 @@
+-- Each call's answer as a definition of the month, in the order of the calls.
+use Prim.Native.Nat.{ℕ, _≤_}
+use native.Mathlib.Omega.{arith}
+use mathlib.Core.Path.{_≡_, sym, ap, ap₂, _∙_}
+use mathlib.Core.List.{List, map}
+use borrow.Author.Needs.{needs}
+use lib.IntN.{ℤ, pos, _+ℤ_}
+use lib.ListN.{length, length-map}
+use mir.Syntax.{w64}
+use mir.Val.{SFits}
+use mir.Facts.{toZ-ofZ}
+use Rattle.ints.specs.Bounds.{word-abs}
+use Rattle.ints.specs.Sums.{sumℤ}
+use Rattle.share.specs.Running.{runningShare}
+use Rattle.share.specs.Laws.{length-share}
+use Rattle.rules.specs.Lines.{Agent, agentOf}
+use Rattle.rules.specs.Lists.{sideBySide}
+use Rattle.rules.specs.Credits.{ownCredit}
+use Rattle.credits.specs.Payable.{Payable, balanceOf, agentVCs}
+use Rattle.credits.proofs.Amounts.{own-small, own-total, fillable, parts-within}
+use Rattle.credits.proofs.payees.agent_credits.Statement.{statement}
+use Rattle.credits.proofs.payees.agent_credits.Tie as tie
+
+module _ (s : tie.Start) where
+  abbrev lines : List Agent
+  lines = map agentOf (s .args .agents .now)
+
+  abbrev own : List ℤ
+  own = map (ownCredit (s .args .month)) lines
+
+  abbrev weights : List ℤ
+  weights = map (λ (a : Agent). a .pb) lines
+
+  abbrev balance : ℤ
+  balance = balanceOf (s .args .month) (s .args .ons) (s .args .debits) lines
+
+  abbrev p : Payable (s .args .month) (s .args .ons) (s .args .debits) lines
+  p = s .pre .0
+
+own-credits-requires : tie.Need-own-credits-requires
+own-credits-requires c κs = search needs
+
+own-is : (c : tie.After-own-credits) → c .own-credits .last .1 .1 .0 ≡ own (c .before .before)
+own-is c = rw (toZ-ofZ (c .before .before .fits .month)) at (c .own-credits .ensures)
+
+total-requires : tie.Need-total-requires
+total-requires c κs =
+    let s = c .before .before .before .before in
+    rw (own-is (c .before .before)) (own-small (p s .lines) (s .args .month) (p s .possible), simp length-map (rw length-map at (p s .lines .few)))
+
+total-is : (c : tie.After-total) → c .total .result ≡ sumℤ (own (c .before .before .before .before .before))
+total-is c = c .total .ensures ∙ ap sumℤ (own-is (c .before .before .before))
+
+total-fits : (c : tie.After-total) → SFits w64 (c .total .result)
+total-fits c = search needs
+
+smse-requires : tie.Need-smse-requires
+smse-requires c κs =
+    let s = c .before .before .before .before .before in
+    rw (toZ-ofZ (s .fits .debits), toZ-ofZ (s .fits .ons), toZ-ofZ (total-fits c), total-is c)
+    (p s .owed, word-abs (own-total (p s .lines) (s .args .month) (p s .possible)), p s .fee)
+
+balance-is : (c : tie.After-smse) → c .smse .result ≡ balance (c .before .before .before .before .before .before)
+unfolding balanceOf
+balance-is c =
+    let s = c .before .before .before .before .before .before in
+    rw (toZ-ofZ (s .fits .debits), toZ-ofZ (s .fits .ons), toZ-ofZ (total-fits (c .before)), total-is (c .before)) at (c .smse .ensures)
+
+balance-fits : (c : tie.After-smse) → SFits w64 (c .smse .result)
+balance-fits c = search needs
+
+pbs-requires : tie.Need-pbs-requires
+pbs-requires c κs = search needs
+
+pb-total-requires : tie.Need-pb-total-requires
+pb-total-requires c κs = search needs
+
+weight-fits : (c : tie.After-pb-total) → SFits w64 (c .pb-total .result)
+weight-fits c = search needs
+
+fill-requires : tie.Need-fill-requires
+fill-requires c κs =
+    let t = c .before .before in
+    let b = t .before .before .before .before in
+    let s = b .before .before .before .before .before .before in
+    rw (toZ-ofZ (balance-fits b), balance-is b, toZ-ofZ (weight-fits t), t .pb-total .ensures, t .before .before .pbs .ensures)
+    (fillable (p s) (rw length-map (s .pre .2)))
+
+parts-are : (c : tie.After-fill) → let s = c .before .before .before .before .before .before .before .before .before .before .before .before .before in c .fill .last .1 .1 .1 .0 ≡ runningShare (balance s) (weights s)
+parts-are c =
+    let t = c .before .before .before in
+    let b = t .before .before .before .before in
+    rw (toZ-ofZ (balance-fits b), balance-is b, t .before .before .pbs .ensures) at (c .fill .ensures)
+
+-- the parts and the agents' own credits, as they stand in the slices where they are added
+module _ (c : tie.After-fill) where
+  abbrev o : tie.After-own-credits
+  o = c .before .before .before .before .before .before .before .before .before .before .before
+
+  abbrev s : tie.Start
+  s = o .before .before
+
+  long : length (runningShare (balance s) (weights s)) ≡ length (own s)
+  long = length-share (balance s) (weights s) ∙ simp length-map
+
+add-each-requires : tie.Need-add-each-requires
+add-each-requires c κs =
+    let f = c .before .before .before in
+    let q = p (s f) in
+    rw (parts-are f, own-is (o f)) (parts-within q, own-small (q .lines) _ (q .possible), long f)
+
+same-length : tie.Need-same-length
+same-length c = search needs
+
+same-length-2 : tie.Need-same-length-2
+same-length-2 c = search needs
+
+same-length-3 : tie.Need-same-length-3
+same-length-3 c = search needs
+
+returns : tie.Need-returns
+unfolding agentVCs
+returns c =
+    let f = c .before .before .before .before .before in
+    let w = f .before .before .before .before .before in
+    let b = w .before .before in
+    record {
+      SMSE = toZ-ofZ (balance-fits b) ∙ balance-is b;
+      weights = w .pbs .ensures;
+      VMANTs = parts-are f;
+      VCs = rw (parts-are f, own-is (o f)) at (c .before .add-each .ensures);
+    }
+
+pub agent-credits-spec : {M : Type 1} → statement M
+agent-credits-spec =
+    tie.close
+    (tie.spec
+    own-credits-requires
+    total-requires
+    smse-requires
+    pbs-requires
+    pb-total-requires
+    fill-requires
+    add-each-requires
+    same-length
+    same-length-2
+    same-length-3
+    returns)

@@ -1,0 +1,100 @@
+-- The loop writes each agent's own credit from the slice's start.
+use Prim.Native.Nat.{ℕ, _-_, _≤_, _<_}
+use native.Mathlib.Omega.{arith}
+use mathlib.Core.Path.{_≡_, sym, _∙_}
+use mathlib.Core.List.{List, [], map}
+use borrow.Author.Needs.{needs}
+use lib.IntN.{ℤ, pos}
+use lib.ListN.{length, getD, length-map}
+use mir.Syntax.{w64}
+use mir.Val.{SFits, toZ}
+use mir.Facts.{toZ-ofZ}
+use Rattle.ints.specs.Fill.{Filling, filling-none, filling-long, filling-more, filling-all}
+use Rattle.rules.specs.Lists.{getD-map}
+use Rattle.rules.specs.Lines.{Agent, agentOf}
+use Rattle.rules.specs.Credits.{ownCredit}
+use Rattle.credits.specs.Columns.{line-at}
+use Rattle.credits.proofs.payees.own_credits.Statement.{statement}
+use Rattle.credits.proofs.payees.own_credits.Tie as tie
+
+abbrev own : ℤ → List (List ℤ) → List ℤ
+own month agents = map (ownCredit month) (map agentOf agents)
+
+own-at : (month : ℤ) (agents : List (List ℤ)) (i : ℕ) → i < length agents → getD (own month agents) i (pos 0) ≡ ownCredit month (agentOf (getD agents i []))
+own-at month agents i h =
+    getD-map (ownCredit month) (map agentOf agents) i (agentOf []) (pos 0) (rw length-map h)
+    ∙ rw (getD-map agentOf agents i [] (agentOf []) h)
+
+long : (month : ℤ) (agents : List (List ℤ)) → length (own month agents) ≡ length agents
+long month agents = simp length-map
+
+abbrev Inv-loop : tie.InvT-loop
+Inv-loop month agents out₀ n i₀ out i = Filling (own (toZ w64 month) agents) out₀ out i
+
+abbrev μ-loop : tie.MeasureT-loop
+μ-loop month agents out₀ n i₀ out i = n - i
+
+same : (s : tie.Start Inv-loop μ-loop) (month : ℤ) → length (own month (s .args .agents .now)) ≡ length (s .args .out .now)
+same s month = long month (s .args .agents .now) ∙ sym (s .pre .2)
+
+loop-holds : tie.Need-loop-holds Inv-loop μ-loop
+loop-holds c = filling-none _ _
+
+mul-own-credit : tie.Need-mul-own-credit Inv-loop μ-loop
+mul-own-credit c = search needs
+
+shared-slice-copy-out-own-credit : tie.Need-shared-slice-copy-out-own-credit Inv-loop μ-loop
+shared-slice-copy-out-own-credit c = search needs
+
+own-credit-requires : tie.Need-own-credit-requires Inv-loop μ-loop
+own-credit-requires c κs =
+    let s = c .before .before .before in
+    rw (toZ-ofZ (s .fits .month)) (s .pre .0, line-at (s .args .agents .now) (s .pre .1) (c .before .before .loop .i) (c .before .loop-test .taken))
+
+mul-t11 : tie.Need-mul-t11 Inv-loop μ-loop
+mul-t11 c = search needs
+
+slice-set-from-out : tie.Need-slice-set-from-out Inv-loop μ-loop
+slice-set-from-out c =
+    let s = c .before .before .before .before in
+    omega (arith, filling-long (same s _) (c .before .before .before .loop .inv), s .pre .2)
+
+add-i : tie.Need-add-i Inv-loop μ-loop
+add-i c = search needs
+
+loop-less : tie.Need-loop-less Inv-loop μ-loop
+loop-less c = search needs
+
+loop-again : tie.Need-loop-again Inv-loop μ-loop
+loop-again c =
+    let s = c .before .before .before .before in
+    let b = c .before .before .before .loop in
+    let h = c .before .before .loop-test .taken in
+    let f : SFits w64 (c .own-credit .result) = search needs in
+    rw (toZ-ofZ f) (filling-more (same s _) (b .inv) (pos 0) (omega (arith, s .pre .2)) (c .own-credit .ensures ∙ sym (own-at _ (s .args .agents .now) (b .i) h)))
+
+same-length : tie.Need-same-length Inv-loop μ-loop
+same-length c = filling-long (same (c .before .before) _) (c .before .loop .inv)
+
+returns : tie.Need-returns Inv-loop μ-loop
+returns c =
+    let s = c .before .before in
+    rw (toZ-ofZ (s .fits .month)) at (filling-all (same s _) (c .before .loop .inv) (omega (arith, s .pre .2)))
+
+pub own-credits-spec : {M : Type 1} → statement M
+own-credits-spec =
+    tie.close
+    (tie.spec
+    Inv-loop
+    μ-loop
+    loop-holds
+    mul-own-credit
+    shared-slice-copy-out-own-credit
+    own-credit-requires
+    mul-t11
+    slice-set-from-out
+    add-i
+    loop-less
+    loop-again
+    same-length
+    returns)

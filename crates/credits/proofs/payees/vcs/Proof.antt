@@ -1,0 +1,80 @@
+-- The arrays are lent as long as there are agents; ONS's entry is the one after theirs.
+use Prim.Native.Nat.{ℕ, _+_, _≤_}
+use native.Mathlib.Omega.{arith}
+use mathlib.Core.Path.{_≡_, sym, ap, _∙_}
+use mathlib.Core.List.{List, [], _∷_, _++_, map}
+use borrow.Author.Needs.{needs}
+use lib.IntN.{ℤ, pos}
+use lib.ListN.{length, take, length-map}
+use lib.Seq.{length-take-le}
+use mir.Facts.{toZ-ofZ}
+use Rattle.ints.specs.Fill.{set-last}
+use Rattle.rules.specs.Lines.{agentOf}
+use Rattle.credits.specs.Payable.{Payable, agentVCs, VCsFrom}
+use Rattle.credits.proofs.payees.vcs.Statement.{statement}
+use Rattle.credits.proofs.payees.vcs.Tie as tie
+
+few : (s : tie.Start) → length (s .args .agents .now) ≤ 256
+few s = rw length-map at (s .pre .0 .lines .few)
+
+array-borrow-prefix-pb : tie.Need-array-borrow-prefix-pb
+array-borrow-prefix-pb c = few c
+
+slice-aggregate-agent-credits : tie.Need-slice-aggregate-agent-credits
+slice-aggregate-agent-credits c = sym (length-take-le _ _ (few (c .before)))
+
+array-borrow-prefix-vmant : tie.Need-array-borrow-prefix-vmant
+array-borrow-prefix-vmant c = few (c .before)
+
+slice-aggregate-agent-credits-2 : tie.Need-slice-aggregate-agent-credits-2
+slice-aggregate-agent-credits-2 c = sym (length-take-le _ _ (few (c .before .before)))
+
+slice-relend-prefix-agent-credits : tie.Need-slice-relend-prefix-agent-credits
+slice-relend-prefix-agent-credits c = search needs
+
+slice-aggregate-agent-credits-3 : tie.Need-slice-aggregate-agent-credits-3
+slice-aggregate-agent-credits-3 c = sym (length-take-le _ _ (omega arith))
+
+agent-credits-requires : tie.Need-agent-credits-requires
+agent-credits-requires c κs =
+    let s = c .before .before .before in (
+      rw (toZ-ofZ (s .fits .month), toZ-ofZ (s .fits .ons), toZ-ofZ (s .fits .debits)) (s .pre .0),
+      length-take-le _ _ (few s),
+      length-take-le _ _ (few s),
+      length-take-le _ _ (omega arith),
+    )
+
+mul-ons : tie.Need-mul-ons
+mul-ons c = search needs
+
+slice-set-from-ons : tie.Need-slice-set-from-ons
+slice-set-from-ons c = search needs
+
+same-length : tie.Need-same-length
+same-length c = search needs
+
+returns : tie.Need-returns
+unfolding VCsFrom
+returns c =
+    let d = c .before .before .before in
+    let s = d .before .before .before .before in
+    let k = d .agent-credits .kept .1 .1 .1 .1 .1 .1 .0 in
+    let e = rw (toZ-ofZ (s .fits .month), toZ-ofZ (s .fits .ons), toZ-ofZ (s .fits .debits)) at (d .agent-credits .ensures .VCs) in
+    rw (toZ-ofZ (s .fits .ons))
+    (set-last (d .agent-credits .last .1 .1 .1 .1 .1 .1 .0) (s .args .vc .now) _ (s .args .ons) (s .pre .1) (k ∙ length-take-le _ _ (omega arith)) ∙ ap (λ (l : List ℤ). l ++ s .args .ons ∷ []) e)
+
+pub vcs-spec : {M : Type 1} → statement M
+vcs-spec =
+    tie.close
+    (tie.spec
+    array-borrow-prefix-pb
+    slice-aggregate-agent-credits
+    array-borrow-prefix-vmant
+    slice-aggregate-agent-credits-2
+    slice-relend-prefix-agent-credits
+    slice-aggregate-agent-credits-3
+    agent-credits-requires
+    mul-ons
+    slice-set-from-ons
+    same-length
+    returns)

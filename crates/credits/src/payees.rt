@@ -1,0 +1,99 @@
+// The credits of a month's payees, from the agent lines and the total of the users' debits.
+ghost use Prim.Native.Nat.{_+_, _≤_};
+ghost use mathlib.Core.Path.{_≡_};
+ghost use mathlib.Core.Bool.{false};
+ghost use mathlib.Core.List.{map};
+ghost use lib.IntN.{pos, _+ℤ_, _-ℤ_};
+ghost use lib.ListN.{length};
+ghost use Rattle.ints.specs.Bridge.{abs};
+ghost use Rattle.ints.specs.Range.{Within};
+ghost use Rattle.ints.specs.Sums.{Small};
+ghost use Rattle.rules.specs.Calendar.{impossibleMonth};
+ghost use Rattle.rules.specs.Lines.{agentOf};
+ghost use Rattle.rules.specs.Credits.{ownCredit};
+ghost use Rattle.rules.specs.Lists.{sideBySide};
+ghost use Rattle.rules.proofs.Fits.{Amount};
+ghost use Rattle.credits.specs.Columns.{AgentLines};
+ghost use Rattle.credits.specs.Payable.{Payable, AgentCredits, VCsFrom};
+
+// Writes VMST + VMPA + ret of each agent.
+pub fn own_credits(month: i64, agents: &[[i64; 7]], out: &mut [i64])
+    requires { ⌜ (impossibleMonth month ≡ false)
+        × AgentLines (map agentOf (now agents))
+        × (length (now out) ≡ length (now agents)) ⌝ }
+    ensures { λ _. ⌜ now (out .exit) ≡ map (ownCredit month) (map agentOf (now (agents .entry))) ⌝ }
+{
+    let n = agents.len();
+    let mut i = 0;
+    while i < n {
+        out[i] = crate::agent::own_credit(month, agents[i]);
+        i += 1;
+    }
+}
+
+// Balance SMSE: what the users owe, less what the agents receive of their own, less ons.
+pub fn smse(debits: i64, own: i64, ons: i64) -> i64
+    requires { ⌜ Within (pos 0) (pos 1689600000000000) debits × (abs own ≤ 102400000000000) × Amount ons ⌝ }
+    ensures { λ r. ⌜ r ≡ debits -ℤ own -ℤ ons ⌝ }
+{
+    debits - own - ons
+}
+
+// Adds each part to its entry.
+fn add_each(parts: &[i64], out: &mut [i64])
+    requires { ⌜ Small 1792000000000000 (now parts)
+        × Small 400000000000 (now out)
+        × (length (now parts) ≡ length (now out)) ⌝ }
+    ensures { λ _. ⌜ now (out .exit) ≡ sideBySide _+ℤ_ (now (out .entry)) (now (parts .entry)) ⌝ }
+{
+    let n = parts.len();
+    let mut i = 0;
+    while i < n {
+        out[i] = out[i] + parts[i];
+        i += 1;
+    }
+}
+
+// Writes the agents' credits: their own, and their parts of the balance over pb, which it writes too. Answers the balance.
+pub fn agent_credits(
+    month: i64,
+    ons: i64,
+    debits: i64,
+    agents: &[[i64; 7]],
+    pb: &mut [i64],
+    vmant: &mut [i64],
+    vc: &mut [i64],
+) -> i64
+    requires { ⌜ Payable month ons debits (map agentOf (now agents))
+        × (length (now pb) ≡ length (now agents))
+        × (length (now vmant) ≡ length (now agents))
+        × (length (now vc) ≡ length (now agents)) ⌝ }
+    ensures { λ r. ⌜ AgentCredits month ons debits (map agentOf (now (agents .entry))) r (now (pb .exit)) (now (vmant .exit)) (now (vc .exit)) ⌝ }
+{
+    own_credits(month, agents, vc);
+    let balance = smse(debits, crate::columns::total(vc), ons);
+    crate::columns::pbs(agents, pb);
+    share::fill(balance, crate::columns::pb_total(agents), pb, vmant);
+    add_each(vmant, vc);
+    balance
+}
+
+// Writes the credit of every payee: the agents in order, and then ONS, with ons.
+pub fn vcs(month: i64, ons: i64, debits: i64, agents: &[[i64; 7]], vc: &mut [i64])
+    requires { ⌜ Payable month ons debits (map agentOf (now agents)) × (length (now vc) ≡ length (now agents) + 1) ⌝ }
+    ensures { λ _. ⌜ now (vc .exit) ≡ VCsFrom month ons debits (map agentOf (now (agents .entry))) ⌝ }
+{
+    let n = agents.len();
+    let mut pb = [0i64; 256];
+    let mut vmant = [0i64; 256];
+    agent_credits(
+        month,
+        ons,
+        debits,
+        agents,
+        &mut pb[..n],
+        &mut vmant[..n],
+        &mut vc[..n],
+    );
+    vc[n] = ons;
+}

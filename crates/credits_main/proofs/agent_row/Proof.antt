@@ -1,0 +1,58 @@
+-- The cycle month is 1 to 12.
+use mathlib.Core.Path.{_≡_}
+use borrow.Author.Needs.{needs}
+use mir.Syntax.{w64}
+use mir.Val.{SFits}
+use mir.Facts.{toZ-ofZ}
+use Rattle.rules.specs.Calendar.{cycleMonth}
+use Rattle.rules.proofs.Fits.{possible}
+use Rattle.rules.proofs.Cycle.{cycle-within}
+use Rattle.rules.proofs.BoundsAgent.{correction}
+use Rattle.credits_main.proofs.agent_row.Statement.{statement}
+use Rattle.credits_main.proofs.agent_row.Tie as tie
+
+vmst-requires : tie.Need-vmst-requires
+vmst-requires c κs = search needs
+
+amount-requires : tie.Need-amount-requires
+amount-requires c κs = search needs
+
+cycle-month-requires : tie.Need-cycle-month-requires
+cycle-month-requires c κs = search needs
+
+array-copy-out-vmpa : tie.Need-array-copy-out-vmpa
+array-copy-out-vmpa c = search needs
+
+vmpa-requires : tie.Need-vmpa-requires
+vmpa-requires c κs =
+    let s = c .before .before .before .before in
+    let m = s .args .month in
+    let f : SFits w64 (c .before .cycle-month .result) = search needs in
+    let e : c .before .cycle-month .result ≡ cycleMonth m = rw (toZ-ofZ (s .fits .month)) at (c .before .cycle-month .ensures) in
+    rw (toZ-ofZ f, e, toZ-ofZ (correction (s .pre .1 .pa) .fits)) (cycle-within m (possible m (s .pre .0)), s .pre .1 .pa)
+
+amount-requires-2 : tie.Need-amount-requires-2
+amount-requires-2 c κs = search needs
+
+amount-requires-3 : tie.Need-amount-requires-3
+amount-requires-3 c κs = search needs
+
+amount-requires-4 : tie.Need-amount-requires-4
+amount-requires-4 c κs = search needs
+
+returns : tie.Need-returns
+returns c = search needs
+
+pub agent-row-spec : {M : Type 1} → statement M
+agent-row-spec =
+    tie.close
+    (tie.spec
+    vmst-requires
+    amount-requires
+    cycle-month-requires
+    array-copy-out-vmpa
+    vmpa-requires
+    amount-requires-2
+    amount-requires-3
+    amount-requires-4
+    returns)

@@ -1,0 +1,37 @@
+-- Quotient, remainder, and the remainder's fraction.
+use mathlib.Core.Path.{_≡_, refl, sym, ap, _∙_}
+use Prim.Native.Nat.{ℕ, _+_, _*_, _/_, _%_, _^_, _≤_, _<_}
+use native.Mathlib.Omega.{arith}
+use native.Mathlib.Nat.{div-add-mod', mod-lt}
+use borrow.Author.Needs.{needs}
+use Rattle.wide.specs.declared.Divided.{Divided}
+use Rattle.share.proofs.weights.rate_of.Statement.{statement}
+use Rattle.share.proofs.weights.rate_of.Tie as tie
+
+rem-part : tie.Need-rem-part
+rem-part c = search needs
+
+scaled-requires : tie.Need-scaled-requires
+scaled-requires c κs = (omega (arith, mod-lt (c .args .size) (c .pre .0)), c .pre .0)
+
+div-t5 : tie.Need-div-t5
+div-t5 c = search needs
+
+returns : tie.Need-returns
+returns c =
+    let a = c .before .args in
+    let z = c .before .pre .0 in
+    let e = c .scaled .ensures in
+    let q : c .scaled .result .quot * a .w + c .scaled .result .rem ≡ 9223372036854775808 * (a .size % a .w) = rw e (div-add-mod' (9223372036854775808 * (a .size % a .w)) (a .w)) in
+    let l : c .scaled .result .rem < a .w = rw e (mod-lt (9223372036854775808 * (a .size % a .w)) z) in (
+      record {
+        sum = sym (div-add-mod' (a .size) (a .w));
+        less = mod-lt (a .size) z;
+        fraction = record { low = omega (arith, q); high = omega (arith, q, l) };
+        most = c .before .pre .1;
+      },
+      refl,
+    )
+
+pub rate-of-spec : {M : Type 1} → statement M
+rate-of-spec = tie.close (tie.spec rem-part scaled-requires div-t5 returns)
