@@ -9,7 +9,6 @@ ghost use Rattle.wide.specs.Exact.{divided};
 ghost use Rattle.share.specs.Answer.{shared, badSums, seenByC};
 ghost use Rattle.share.specs.Running.{runningShare};
 ghost use Rattle.share.specs.Filling.{Fillable};
-ghost use Rattle.share.specs.Exact.{beyond, floored};
 
 pub mod weights;
 
@@ -98,29 +97,6 @@ fn split(p: i64, t: u64, w: u64) -> Floored
 {
     let d = scaled(size(p), t, w);
     signed(p, t, w, d)
-}
-
-// Whether p, t and w break the limits of `floor_with_rest`.
-fn beyond(p: i64, t: u64, w: u64) -> bool
-    ensures { λ r. ⌜ r ≡ beyond p t w ⌝ }
-{
-    if ints::outside(-LIMIT, LIMIT, p) {
-        return true;
-    }
-    if w < t {
-        return true;
-    }
-    w == 0
-}
-
-// p × t over w rounded down, and what is left over; zeros where p is out of its limit, t above w or w 0.
-pub fn floor_with_rest(p: i64, t: u64, w: u64) -> Floored
-    ensures { λ r. ⌜ r ≡ floored p t w ⌝ }
-{
-    if beyond(p, t, w) {
-        return Floored { quot: 0, rem: 0 };
-    }
-    split(p, t, w)
 }
 
 // p × t over w rounded down.
