@@ -1,4 +1,4 @@
--- As `total`, of what stands at k in each line.
+-- As `ints::total`, of what stands at k in each line.
 use Prim.Native.Nat.{ℕ, _*_, _^_, _-_, _≤_, _<_}
 use native.Mathlib.Omega.{arith}
 use mathlib.Core.Path.{_≡_, sym}
@@ -56,7 +56,7 @@ module _ (c : tie.After-sum Inv-loop μ-loop) where
   inside = rw length-map (c .before .before .loop-test .taken)
 
   sum-fits : SFits w64 (toZ w64 (c .before .before .before .loop .sum) +ℤ entry)
-  sum-fits = added-fits (c .before .before .before .loop .inv) (s .pre .1) (rw length-map (omega arith)) inside entry-is
+  sum-fits = added-fits (c .before .before .before .loop .inv) (s .pre .1) inside entry-is
 
 add-sum : tie.Need-add-sum Inv-loop μ-loop
 add-sum c = rw (toZ-ofZ (entry-fits c)) (sum-fits c)
