@@ -1,21 +1,20 @@
 -- Bounds of the numbers on the way to the credits, from no more than what the credits ask.
-use Prim.Native.Nat.{ℕ, _+_, _*_, _^_, _≤_, _<_}
+use Prim.Native.Nat.{ℕ, _≤_}
 use native.Mathlib.Omega.{arith}
 use native.Mathlib.Nat.{le-trans}
 use mathlib.Core.Path.{_≡_, refl, sym, _∙_}
 use mathlib.Core.Bool.{false}
 use mathlib.Core.List.{List, map}
 use lib.Dec.{T, leb}
-use lib.IntN.{ℤ, pos, _+ℤ_, _-ℤ_}
-use lib.ListN.{length, getD, length-map}
-use lib.Signed.{_≤ℤ_, _<ℤ_}
-use Rattle.ints.specs.Bridge.{abs, za}
+use lib.IntN.{ℤ}
+use lib.ListN.{length, length-map}
+use Rattle.ints.specs.Bridge.{za}
 use Rattle.ints.specs.Bounds.{Word, word, word-abs, word-wide, word-sub, Words, words-nonneg, word-total, word-sum}
 use Rattle.ints.specs.Sums.{sumℤ, Small}
 use Rattle.ints.specs.Adding.{Summable}
 use Rattle.share.specs.Running.{runningShare}
 use Rattle.share.specs.Filling.{Fillable}
-use Rattle.share.specs.Laws.{length-share, parts-small}
+use Rattle.share.specs.Laws.{parts-small}
 use Rattle.rules.specs.Calendar.{impossibleMonth, cycleMonth}
 use Rattle.rules.specs.Lines.{Agent}
 use Rattle.rules.specs.Credits.{ownCredit}

@@ -1,8 +1,8 @@
 -- The loop adds up the entries, each small enough that no part's sum leaves 64 bits.
-use Prim.Native.Nat.{ℕ, _*_, _^_, _-_, _≤_, _<_}
-use mathlib.Core.Path.{_≡_, refl}
+use Prim.Native.Nat.{_-_}
+use mathlib.Core.Path.{refl}
 use borrow.Author.Needs.{needs}
-use lib.IntN.{ℤ, pos, _+ℤ_}
+use lib.IntN.{pos, _+ℤ_}
 use lib.ListN.{length, getD}
 use mir.Syntax.{w64}
 use mir.Val.{SFits, toZ}

@@ -1,8 +1,7 @@
 -- As `ints::total`, of what stands at k in each line.
-use Prim.Native.Nat.{ℕ, _*_, _^_, _-_, _≤_, _<_}
-use native.Mathlib.Omega.{arith}
+use Prim.Native.Nat.{ℕ, _-_, _<_}
 use mathlib.Core.Path.{_≡_, sym}
-use mathlib.Core.List.{List, []}
+use mathlib.Core.List.{[]}
 use borrow.Author.Needs.{needs}
 use lib.IntN.{ℤ, pos, _+ℤ_}
 use lib.ListN.{length, getD, length-map}

@@ -1,10 +1,8 @@
 -- Each call's answer as a definition of the month, in the order of the calls.
-use Prim.Native.Nat.{ℕ, _≤_}
-use native.Mathlib.Omega.{arith}
-use mathlib.Core.Path.{_≡_, sym, ap, ap₂, _∙_}
+use mathlib.Core.Path.{_≡_, ap, _∙_}
 use mathlib.Core.List.{List, map}
 use borrow.Author.Needs.{needs}
-use lib.IntN.{ℤ, pos, _+ℤ_}
+use lib.IntN.{ℤ}
 use lib.ListN.{length, length-map}
 use mir.Syntax.{w64}
 use mir.Val.{SFits}
@@ -14,7 +12,6 @@ use Rattle.ints.specs.Sums.{sumℤ}
 use Rattle.share.specs.Running.{runningShare}
 use Rattle.share.specs.Laws.{length-share}
 use Rattle.rules.specs.Lines.{Agent, agentOf}
-use Rattle.rules.specs.Lists.{sideBySide}
 use Rattle.rules.specs.Credits.{ownCredit}
 use Rattle.credits.specs.Payable.{Payable, balanceOf, agentVCs}
 use Rattle.credits.proofs.Amounts.{own-small, own-summable, own-total, fillable, parts-within}
