@@ -1,20 +1,20 @@
 -- Bounds of the numbers on the way to the credits, from no more than what the credits ask.
-use Prim.Native.Nat.{ℕ, _+_, _*_, _^_, _≤_, _<_}
+use Prim.Native.Nat.{ℕ, _≤_}
 use native.Mathlib.Omega.{arith}
 use native.Mathlib.Nat.{le-trans}
 use mathlib.Core.Path.{_≡_, refl, sym, _∙_}
 use mathlib.Core.Bool.{false}
 use mathlib.Core.List.{List, map}
 use lib.Dec.{T, leb}
-use lib.IntN.{ℤ, pos, _+ℤ_, _-ℤ_}
-use lib.ListN.{length, getD, length-map}
-use lib.Signed.{_≤ℤ_, _<ℤ_}
-use Rattle.ints.specs.Bridge.{abs, za}
+use lib.IntN.{ℤ}
+use lib.ListN.{length, length-map}
+use Rattle.ints.specs.Bridge.{za}
 use Rattle.ints.specs.Bounds.{Word, word, word-abs, word-wide, word-sub, Words, words-nonneg, word-total, word-sum}
 use Rattle.ints.specs.Sums.{sumℤ, Small}
+use Rattle.ints.specs.Adding.{Summable}
 use Rattle.share.specs.Running.{runningShare}
 use Rattle.share.specs.Filling.{Fillable}
-use Rattle.share.specs.Laws.{length-share, parts-small}
+use Rattle.share.specs.Laws.{parts-small}
 use Rattle.rules.specs.Calendar.{impossibleMonth, cycleMonth}
 use Rattle.rules.specs.Lines.{Agent}
 use Rattle.rules.specs.Credits.{ownCredit}
@@ -35,14 +35,17 @@ module _ {agents : List Agent} (l : AgentLines agents) where
   pb-words : Words 0 100000000000 (map (λ (a : Agent). a .pb) agents)
   pb-words = column (λ (a : Agent). a .pb) agents (λ i h. amount (l .line i h .pb))
 
-  pub pb-small : Small 400000000000 (map (λ (a : Agent). a .pb) agents)
-  pb-small = small-of 400000000000 pb-words tt tt
+  summable : {L H : ℕ} (f : Agent → ℤ) → Words L H (map f agents) → T (leb L 400000000000) → T (leb H 400000000000) → Summable (map f agents)
+  summable f w l h = let n = few f in record { largest = 400000000000; small = small-of 400000000000 w l h; room = omega arith }
+
+  pub pb-summable : Summable (map (λ (a : Agent). a .pb) agents)
+  pb-summable = summable _ pb-words tt tt
 
   pb-total : Word 0 25600000000000 (sumℤ (map (λ (a : Agent). a .pb) agents))
   pb-total = word-sum 100000000000 256 _ pb-words (few _) tt
 
-  pub pv-small : Small 400000000000 (map (λ (a : Agent). a .pv) agents)
-  pv-small = small-of 400000000000 (column (λ (a : Agent). a .pv) agents (λ i h. amount (l .line i h .pv))) tt tt
+  pub pv-summable : Summable (map (λ (a : Agent). a .pv) agents)
+  pv-summable = summable _ (column (λ (a : Agent). a .pv) agents (λ i h. amount (l .line i h .pv))) tt tt
 
   module _ (month : ℤ) (p : impossibleMonth month ≡ false) where
     own-words : Words 400000000000 400000000000 (map (ownCredit month) agents)
@@ -51,6 +54,9 @@ module _ {agents : List Agent} (l : AgentLines agents) where
 
     pub own-small : Small 400000000000 (map (ownCredit month) agents)
     own-small = small-of 400000000000 own-words tt tt
+
+    pub own-summable : Summable (map (ownCredit month) agents)
+    own-summable = summable _ own-words tt tt
 
     pub own-total : Word 102400000000000 102400000000000 (sumℤ (map (ownCredit month) agents))
     own-total = word-total 400000000000 256 _ own-words (few _) tt

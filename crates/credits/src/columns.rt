@@ -1,9 +1,10 @@
-// Columns of the agent lines and sums of amounts.
-ghost use Prim.Native.Nat.{_≤_, _<_};
+// Columns of the agent lines, and their sums.
+ghost use Prim.Native.Nat.{_<_};
 ghost use mathlib.Core.Path.{_≡_};
 ghost use mathlib.Core.List.{map};
 ghost use lib.ListN.{length};
-ghost use Rattle.ints.specs.Sums.{sumℤ, Small};
+ghost use Rattle.ints.specs.Adding.{Summable};
+ghost use Rattle.ints.specs.Sums.{sumℤ};
 ghost use Rattle.rules.specs.Lines.{Agent, agentOf};
 ghost use Rattle.credits.specs.Columns.{AgentLines, column};
 
@@ -12,23 +13,9 @@ const PB: usize = 1;
 
 const PV: usize = 2;
 
-// The sum of at most 256 amounts, each at most 4 × 10^11 in size.
-pub fn total(amounts: &[i64]) -> i64
-    requires { ⌜ Small 400000000000 (now amounts) × (length (now amounts) ≤ 256) ⌝ }
-    ensures { λ r. ⌜ r ≡ sumℤ (now (amounts .entry)) ⌝ }
-{
-    let mut sum: i64 = 0;
-    let mut i = 0;
-    while i < amounts.len() {
-        sum = sum + amounts[i];
-        i += 1;
-    }
-    sum
-}
-
 // The sum of the column k.
 fn column_total(agents: &[[i64; 7]], k: usize) -> i64
-    requires { ⌜ (k < 7) × Small 400000000000 (column k (now agents)) × (length (now agents) ≤ 256) ⌝ }
+    requires { ⌜ (k < 7) × Summable (column k (now agents)) ⌝ }
     ensures { λ r. ⌜ r ≡ sumℤ (column k (now (agents .entry))) ⌝ }
 {
     let mut sum: i64 = 0;

@@ -71,7 +71,7 @@ pub fn agent_credits(
     ensures { λ r. ⌜ AgentCredits month ons debits (map agentOf (now (agents .entry))) r (now (pb .exit)) (now (vmant .exit)) (now (vc .exit)) ⌝ }
 {
     own_credits(month, agents, vc);
-    let balance = smse(debits, crate::columns::total(vc), ons);
+    let balance = smse(debits, ints::total(vc), ons);
     crate::columns::pbs(agents, pb);
     share::fill(balance, crate::columns::pb_total(agents), pb, vmant);
     add_each(vmant, vc);

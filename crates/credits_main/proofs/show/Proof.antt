@@ -1,9 +1,8 @@
 -- Past the test the month is payable; what a call wrote is as long as it was.
-use mathlib.Core.Path.{_≡_, _∙_}
+use mathlib.Core.Path.{_∙_}
 use mathlib.Core.List.{map}
 use borrow.Author.Needs.{needs}
 use borrow.Author.Tests.{not-false}
-use mir.Facts.{toZ-ofZ}
 use Rattle.ints.specs.Words.{back}
 use Rattle.rules.specs.Lines.{agentOf}
 use Rattle.credits.specs.Payable.{Payable}

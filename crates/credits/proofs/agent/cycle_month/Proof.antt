@@ -1,6 +1,6 @@
 -- A possible month is above 0, where the remainder is mm.
 use Prim.Native.Nat.{ℕ}
-use mathlib.Core.Path.{_≡_, sym, _∙_}
+use mathlib.Core.Path.{_≡_}
 use mathlib.Core.Bool.{true, false}
 use borrow.Author.Needs.{needs}
 use lib.Dec.{T, leb, leb→le}
@@ -10,9 +10,8 @@ use mir.Syntax.{w64}
 use mir.Val.{SFits}
 use mir.Facts.{toZ-ofZ}
 use Rattle.ints.specs.Bridge.{za, add#, sub#, above#}
-use Rattle.ints.specs.Range.{Within}
 use Rattle.ints.specs.Words.{quot-small, rem-small, rem-floor}
-use Rattle.rules.specs.Calendar.{monthOfYear, impossibleMonth, cycleMonth}
+use Rattle.rules.specs.Calendar.{monthOfYear, cycleMonth}
 use Rattle.rules.proofs.Fits.{Possible, possible}
 use Rattle.credits.proofs.agent.cycle_month.Statement.{statement}
 use Rattle.credits.proofs.agent.cycle_month.Tie as tie

@@ -1,9 +1,8 @@
 -- Below 0 the quotient toward zero is that of the next number up, less one; from 0 on it is the floor.
-use Prim.Native.Nat.{ℕ, zero, suc, _≤_, _^_}
+use Prim.Native.Nat.{ℕ, zero, suc, _≤_}
 use native.Mathlib.Omega.{arith}
 use mathlib.Core.Path.{_≡_}
 use mathlib.Core.Bool.{true}
-use borrow.Author.Needs.{needs}
 use lib.Dec.{T, leb, leb→le}
 use lib.IntN.{ℤ, pos, negsuc, _+ℤ_, _-ℤ_, +ℤ-idr}
 use lib.Signed.{quotZ, ltZ}

@@ -1,8 +1,7 @@
 -- The parts as rules' bounds of an agent line have them.
-use mathlib.Core.Path.{_≡_, refl, sym, _∙_}
+use mathlib.Core.Path.{_≡_, sym}
 use borrow.Author.Needs.{needs}
-use lib.IntN.{ℤ, pos}
-use lib.ListN.{getD}
+use lib.IntN.{pos}
 use mir.Syntax.{w64}
 use mir.Val.{SFits}
 use mir.Facts.{toZ-ofZ}

@@ -1,12 +1,9 @@
 -- Every number on the way is within rules' bounds of what falls due.
-use mathlib.Core.Path.{_≡_, sym, ap, _∙_}
+use mathlib.Core.Path.{_≡_}
 use borrow.Author.Needs.{needs}
-use lib.IntN.{ℤ, pos, _-ℤ_, _*ℤ_}
-use mir.Syntax.{w64}
-use mir.Val.{SFits}
+use lib.IntN.{pos, _-ℤ_, _*ℤ_}
 use mir.Facts.{toZ-ofZ}
 use Rattle.ints.specs.Floor.{floor}
-use Rattle.rules.specs.Lines.{Agent}
 use Rattle.rules.specs.Credits.{VMPA}
 use Rattle.rules.proofs.BoundsAgent.{DueBounds, due-bounds}
 use Rattle.credits.proofs.agent.vmpa.Statement.{statement}

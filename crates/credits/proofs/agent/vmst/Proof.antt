@@ -1,8 +1,7 @@
 -- Four amounts; which of them is added and which taken off is for `returns` to judge.
 use mathlib.Core.Path.{_≡_}
 use borrow.Author.Needs.{needs}
-use lib.IntN.{ℤ, pos, _+ℤ_, _-ℤ_}
-use lib.ListN.{getD}
+use lib.IntN.{ℤ, _+ℤ_, _-ℤ_}
 use mir.Syntax.{w64}
 use mir.Val.{SFits}
 use mir.Facts.{toZ-ofZ}

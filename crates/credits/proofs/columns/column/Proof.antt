@@ -1,17 +1,16 @@
 -- The loop writes the column from its start.
-use Prim.Native.Nat.{ℕ, _-_, _≤_, _<_}
+use Prim.Native.Nat.{_-_}
 use native.Mathlib.Omega.{arith}
-use mathlib.Core.Path.{_≡_, refl, sym, ap, _∙_}
-use mathlib.Core.List.{List, [], map}
+use mathlib.Core.Path.{_≡_, sym}
+use mathlib.Core.List.{[]}
 use borrow.Author.Needs.{needs}
-use lib.IntN.{ℤ, pos}
-use lib.ListN.{length, getD, set, length-map}
+use lib.IntN.{pos}
+use lib.ListN.{length, getD, length-map}
 use mir.Syntax.{w64}
 use mir.Val.{SFits}
 use mir.Facts.{toZ-ofZ}
 use Rattle.ints.specs.Fill.{Filling, filling-none, filling-long, filling-more, filling-all}
 use Rattle.rules.specs.Lists.{getD-map}
-use Rattle.rules.specs.Lines.{Agent, agentOf}
 use Rattle.credits.specs.Columns.{column}
 use Rattle.credits.proofs.columns.column.Statement.{statement}
 use Rattle.credits.proofs.columns.column.Tie as tie

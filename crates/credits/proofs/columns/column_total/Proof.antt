@@ -1,8 +1,7 @@
--- As `total`, of what stands at k in each line.
-use Prim.Native.Nat.{ℕ, _*_, _^_, _-_, _≤_, _<_}
-use native.Mathlib.Omega.{arith}
+-- As `ints::total`, of what stands at k in each line.
+use Prim.Native.Nat.{ℕ, _-_, _<_}
 use mathlib.Core.Path.{_≡_, sym}
-use mathlib.Core.List.{List, []}
+use mathlib.Core.List.{[]}
 use borrow.Author.Needs.{needs}
 use lib.IntN.{ℤ, pos, _+ℤ_}
 use lib.ListN.{length, getD, length-map}
@@ -56,7 +55,7 @@ module _ (c : tie.After-sum Inv-loop μ-loop) where
   inside = rw length-map (c .before .before .loop-test .taken)
 
   sum-fits : SFits w64 (toZ w64 (c .before .before .before .loop .sum) +ℤ entry)
-  sum-fits = added-fits (c .before .before .before .loop .inv) (s .pre .1) (rw length-map (omega arith)) inside entry-is
+  sum-fits = added-fits (c .before .before .before .loop .inv) (s .pre .1) inside entry-is
 
 add-sum : tie.Need-add-sum Inv-loop μ-loop
 add-sum c = rw (toZ-ofZ (entry-fits c)) (sum-fits c)

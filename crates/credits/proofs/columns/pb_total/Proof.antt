@@ -1,19 +1,18 @@
 -- The column as rules names it.
 use native.Mathlib.Omega.{arith}
-use mathlib.Core.Path.{_≡_, ap, _∙_}
+use mathlib.Core.Path.{ap, _∙_}
 use borrow.Author.Needs.{needs}
-use lib.ListN.{length, length-map}
 use mir.Syntax.{w64}
 use mir.Val.{SFits}
 use mir.Facts.{toZ-ofZ}
 use Rattle.ints.specs.Sums.{sumℤ}
 use Rattle.credits.specs.Columns.{pb-column}
-use Rattle.credits.proofs.Amounts.{pb-small}
+use Rattle.credits.proofs.Amounts.{pb-summable}
 use Rattle.credits.proofs.columns.pb_total.Statement.{statement}
 use Rattle.credits.proofs.columns.pb_total.Tie as tie
 
 column-total-requires : tie.Need-column-total-requires
-column-total-requires c κs = (omega arith, rw pb-column (pb-small (c .pre)), rw length-map at (c .pre .few))
+column-total-requires c κs = (omega arith, rw pb-column (pb-summable (c .pre)))
 
 returns : tie.Need-returns
 returns c =

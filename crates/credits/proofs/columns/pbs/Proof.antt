@@ -1,5 +1,5 @@
 -- The column as rules names it.
-use mathlib.Core.Path.{_≡_, _∙_}
+use mathlib.Core.Path.{_∙_}
 use borrow.Author.Needs.{needs}
 use Rattle.credits.specs.Columns.{pb-column}
 use Rattle.credits.proofs.columns.pbs.Statement.{statement}

@@ -1,15 +1,14 @@
 -- The loop finds each entry as it was, and writes the sum.
-use Prim.Native.Nat.{ℕ, _+_, _-_, _≤_, _<_}
+use Prim.Native.Nat.{ℕ, _-_, _<_}
 use native.Mathlib.Omega.{arith}
-use mathlib.Core.Path.{_≡_, sym, ap, _∙_}
-use mathlib.Core.List.{List}
+use mathlib.Core.Path.{_≡_, sym}
 use borrow.Author.Needs.{needs}
-use lib.IntN.{ℤ, pos, _+ℤ_}
+use lib.IntN.{pos, _+ℤ_}
 use lib.ListN.{length, getD}
 use mir.Syntax.{w64}
 use mir.Val.{SFits}
 use mir.Facts.{toZ-ofZ}
-use Rattle.ints.specs.Bridge.{abs, za, add#}
+use Rattle.ints.specs.Bridge.{za, add#}
 use Rattle.ints.specs.Fill.{Filling, filling-none, filling-long, filling-next, filling-more, filling-all}
 use Rattle.rules.specs.Lists.{sideBySide, length-sideBySide, getD-sideBySide}
 use Rattle.credits.proofs.payees.add_each.Statement.{statement}

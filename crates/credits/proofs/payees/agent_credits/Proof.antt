@@ -1,10 +1,8 @@
 -- Each call's answer as a definition of the month, in the order of the calls.
-use Prim.Native.Nat.{ℕ, _≤_}
-use native.Mathlib.Omega.{arith}
-use mathlib.Core.Path.{_≡_, sym, ap, ap₂, _∙_}
+use mathlib.Core.Path.{_≡_, ap, _∙_}
 use mathlib.Core.List.{List, map}
 use borrow.Author.Needs.{needs}
-use lib.IntN.{ℤ, pos, _+ℤ_}
+use lib.IntN.{ℤ}
 use lib.ListN.{length, length-map}
 use mir.Syntax.{w64}
 use mir.Val.{SFits}
@@ -14,10 +12,9 @@ use Rattle.ints.specs.Sums.{sumℤ}
 use Rattle.share.specs.Running.{runningShare}
 use Rattle.share.specs.Laws.{length-share}
 use Rattle.rules.specs.Lines.{Agent, agentOf}
-use Rattle.rules.specs.Lists.{sideBySide}
 use Rattle.rules.specs.Credits.{ownCredit}
 use Rattle.credits.specs.Payable.{Payable, balanceOf, agentVCs}
-use Rattle.credits.proofs.Amounts.{own-small, own-total, fillable, parts-within}
+use Rattle.credits.proofs.Amounts.{own-small, own-summable, own-total, fillable, parts-within}
 use Rattle.credits.proofs.payees.agent_credits.Statement.{statement}
 use Rattle.credits.proofs.payees.agent_credits.Tie as tie
 
@@ -46,7 +43,7 @@ own-is c = rw (toZ-ofZ (c .before .before .fits .month)) at (c .own-credits .ens
 total-requires : tie.Need-total-requires
 total-requires c κs =
     let s = c .before .before .before .before in
-    rw (own-is (c .before .before)) (own-small (p s .lines) (s .args .month) (p s .possible), simp length-map (rw length-map at (p s .lines .few)))
+    rw (own-is (c .before .before)) (own-summable (p s .lines) (s .args .month) (p s .possible))
 
 total-is : (c : tie.After-total) → c .total .result ≡ sumℤ (own (c .before .before .before .before .before))
 total-is c = c .total .ensures ∙ ap sumℤ (own-is (c .before .before .before))

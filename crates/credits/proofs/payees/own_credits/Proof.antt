@@ -1,5 +1,5 @@
 -- The loop writes each agent's own credit from the slice's start.
-use Prim.Native.Nat.{ℕ, _-_, _≤_, _<_}
+use Prim.Native.Nat.{ℕ, _-_, _<_}
 use native.Mathlib.Omega.{arith}
 use mathlib.Core.Path.{_≡_, sym, _∙_}
 use mathlib.Core.List.{List, [], map}
@@ -11,7 +11,7 @@ use mir.Val.{SFits, toZ}
 use mir.Facts.{toZ-ofZ}
 use Rattle.ints.specs.Fill.{Filling, filling-none, filling-long, filling-more, filling-all}
 use Rattle.rules.specs.Lists.{getD-map}
-use Rattle.rules.specs.Lines.{Agent, agentOf}
+use Rattle.rules.specs.Lines.{agentOf}
 use Rattle.rules.specs.Credits.{ownCredit}
 use Rattle.credits.specs.Columns.{line-at}
 use Rattle.credits.proofs.payees.own_credits.Statement.{statement}

@@ -1,6 +1,5 @@
 -- Both differences are far within 64 bits.
-use mathlib.Core.Path.{_≡_}
-use lib.IntN.{ℤ, pos, _-ℤ_}
+use lib.IntN.{_-ℤ_}
 use mir.Syntax.{w64}
 use mir.Val.{SFits}
 use mir.Facts.{toZ-ofZ}

@@ -1,16 +1,15 @@
 -- The arrays are lent as long as there are agents; ONS's entry is the one after theirs.
-use Prim.Native.Nat.{ℕ, _+_, _≤_}
+use Prim.Native.Nat.{_≤_}
 use native.Mathlib.Omega.{arith}
-use mathlib.Core.Path.{_≡_, sym, ap, _∙_}
-use mathlib.Core.List.{List, [], _∷_, _++_, map}
+use mathlib.Core.Path.{sym, ap, _∙_}
+use mathlib.Core.List.{List, [], _∷_, _++_}
 use borrow.Author.Needs.{needs}
-use lib.IntN.{ℤ, pos}
-use lib.ListN.{length, take, length-map}
+use lib.IntN.{ℤ}
+use lib.ListN.{length, length-map}
 use lib.Seq.{length-take-le}
 use mir.Facts.{toZ-ofZ}
 use Rattle.ints.specs.Fill.{set-last}
-use Rattle.rules.specs.Lines.{agentOf}
-use Rattle.credits.specs.Payable.{Payable, agentVCs, VCsFrom}
+use Rattle.credits.specs.Payable.{VCsFrom}
 use Rattle.credits.proofs.payees.vcs.Statement.{statement}
 use Rattle.credits.proofs.payees.vcs.Tie as tie
 

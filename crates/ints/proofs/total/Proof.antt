@@ -1,16 +1,15 @@
 -- The loop adds up the entries, each small enough that no part's sum leaves 64 bits.
-use Prim.Native.Nat.{ℕ, _*_, _^_, _-_, _≤_, _<_}
-use native.Mathlib.Omega.{arith}
-use mathlib.Core.Path.{_≡_, refl}
+use Prim.Native.Nat.{_-_}
+use mathlib.Core.Path.{refl}
 use borrow.Author.Needs.{needs}
-use lib.IntN.{ℤ, pos, _+ℤ_}
+use lib.IntN.{pos, _+ℤ_}
 use lib.ListN.{length, getD}
 use mir.Syntax.{w64}
 use mir.Val.{SFits, toZ}
 use mir.Facts.{toZ-ofZ}
 use Rattle.ints.specs.Adding.{Added, added-none, added-more, added-fits, added-all}
-use Rattle.credits.proofs.columns.total.Statement.{statement}
-use Rattle.credits.proofs.columns.total.Tie as tie
+use Rattle.ints.proofs.total.Statement.{statement}
+use Rattle.ints.proofs.total.Tie as tie
 
 abbrev Inv-loop : tie.InvT-loop
 Inv-loop amounts sum₀ i₀ sum i = Added amounts (toZ w64 sum) i
@@ -32,8 +31,7 @@ entry-fits c = search needs
 
 sum-fits : (c : tie.After-sum Inv-loop μ-loop) → SFits w64 (toZ w64 (c .before .before .loop .sum) +ℤ getD (c .before .before .before .args .amounts .now) (c .before .before .loop .i) (pos 0))
 sum-fits c =
-    let p = c .before .before .before .pre in
-    added-fits (c .before .before .loop .inv) (p .0) (omega arith) (c .before .loop-test .taken) refl
+    added-fits (c .before .before .loop .inv) (c .before .before .before .pre) (c .before .loop-test .taken) refl
 
 add-sum : tie.Need-add-sum Inv-loop μ-loop
 add-sum c = rw (toZ-ofZ (entry-fits c)) (sum-fits c)
