@@ -1,6 +1,8 @@
 // The exact running share of an amount over weights (paper 01, "Units and arithmetic" and "The month file").
 ghost use mathlib.Core.Path.{_≡_};
-ghost use Prim.Native.Nat.{_*_, _≤_, _<_};
+ghost use mathlib.Core.Bool.{cond};
+ghost use Prim.Native.Nat.{_+_, _*_, _≤_, _<_};
+ghost use lib.Dec.{eqb};
 ghost use lib.IntN.{pos, _*ℤ_};
 ghost use Rattle.ints.specs.Bridge.{abs};
 ghost use Rattle.ints.specs.Floor.{floor};
@@ -26,18 +28,11 @@ pub enum Shared {
     BadSums,
 }
 
-// a × t over w: t is at most w, so the quotient is at most a. A product of one word, as most are, takes one plain division.
+// a × t over w: t is at most w, so the quotient is at most a.
 fn scaled(a: u64, t: u64, w: u64) -> Divided
     requires { ⌜ (t ≤ w) × (0 < w) ⌝ }
     ensures { λ r. ⌜ r ≡ divided (a * t) w ⌝ }
 {
-    let n = wide::product::multiply(a, t);
-    if n.high == 0 {
-        return Divided {
-            quot: n.low / w,
-            rem: n.low % w,
-        };
-    }
     let r = wide::quotient::of_product(a, t, w);
     match r {
         Ratio::Exact(d) => d,
@@ -90,22 +85,28 @@ pub fn signed(p: i64, t: u64, w: u64, d: Divided) -> Floored
     Floored { quot: q, rem: m }
 }
 
-// p × t over w.
-fn split(p: i64, t: u64, w: u64) -> Floored
-    requires { ⌜ (abs p ≤ 100000000000000000) × (t ≤ w) × (0 < w) ⌝ }
-    ensures { λ r. ⌜ Split (p *ℤ pos t) w (r .quot) (r .rem) ⌝ }
+// The quotient, or one more where something is left over.
+fn raised(d: Divided) -> u64
+    requires { ⌜ d .quot ≤ 100000000000000000 ⌝ }
+    ensures { λ r. ⌜ r ≡ cond (eqb (d .rem) 0) (d .quot) (d .quot + 1) ⌝ }
 {
-    let d = scaled(size(p), t, w);
-    signed(p, t, w, d)
+    if d.rem == 0 {
+        return d.quot;
+    }
+    d.quot + 1
 }
 
-// p × t over w rounded down.
+// p × t over w rounded down. Both signs are worked out and one is taken, since a branch on the sign costs more.
 fn floor_of(p: i64, t: u64, w: u64) -> i64
     requires { ⌜ (abs p ≤ 100000000000000000) × (t ≤ w) × (0 < w) ⌝ }
     ensures { λ r. ⌜ r ≡ floor (p *ℤ pos t) (pos w) ⌝ }
 {
-    let f = split(p, t, w);
-    f.quot
+    let d = scaled(size(p), t, w);
+    let up = raised(d) as i64;
+    if p < 0 {
+        return -up;
+    }
+    d.quot as i64
 }
 
 // Whether the sums break 0 <= before <= through <= w.

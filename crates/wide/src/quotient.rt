@@ -77,7 +77,7 @@ fn divide(n: Words, c: u64) -> Divided
     }
 }
 
-// a × b over c.
+// a × b over c. A product of one word, as most are, takes one plain division.
 pub fn of_product(a: u64, b: u64, c: u64) -> Ratio
     ensures { λ r. ⌜ r ≡ ratio a b c ⌝ }
 {
@@ -85,6 +85,12 @@ pub fn of_product(a: u64, b: u64, c: u64) -> Ratio
         return Ratio::ByZero;
     }
     let n = multiply(a, b);
+    if n.high == 0 {
+        return Ratio::Exact(Divided {
+            quot: n.low / c,
+            rem: n.low % c,
+        });
+    }
     if n.high < c {
         Ratio::Exact(divide(n, c))
     } else {
