@@ -221,9 +221,9 @@ fn show_bills(agents: &[[i64; 7]], users: &[[i64; 3]], held: &[i64], s: Sums) ->
     let Answer::Accepted = credits else {
         return [0i64; 3];
     };
-    let pv = charges::month::pv_total(agents);
+    let pv = credits::columns::pv_total(agents);
     let uses = s.uses;
-    if charges::month::no_weights(pv, charges::month::total(&uses[..n])) {
+    if charges::month::no_weights(pv, ints::total(&uses[..n])) {
         put(b" refused 9 0");
         return [0i64; 3];
     }
