@@ -1,5 +1,6 @@
-// The credits of seeded months, printed: a row for each month of three agents, in it VMST, VMPA, VMANT and VC of each agent, then the
-// balance and ONS's credit. The rows that must come are the reference calculation's (tests/reference/tests/credits.rs).
+// The credits of months, printed: the cases h and i of paper 01, then 200 seeded months of each kind. A row for each month of three
+// agents, in it VMST, VMPA, VMANT and VC of each agent, then the balance and ONS's credit. The rows that must come are the reference
+// calculation's (tests/reference/tests/credits.rs).
 ghost use Prim.Native.Nat.{_+_, _≤_};
 ghost use mathlib.Core.Path.{_≡_};
 ghost use mathlib.Core.Bool.{true, false};
@@ -15,12 +16,14 @@ ghost use Rattle.credits.specs.Payable.{Payable};
 use libc::STDOUT_FILENO;
 use rules::Answer;
 
-// Values anywhere in their ranges; small ones; the ends of the ranges.
+// Values anywhere in their ranges; small ones; the ends of the ranges; pa and ret below 0.
 const ANY: u64 = 0;
 
 const TINY: u64 = 1;
 
 const EDGE: u64 = 2;
+
+const NEGATIVE: u64 = 3;
 
 // An agent line, and where the generator stands after it.
 struct Drawn {
@@ -67,6 +70,9 @@ fn value(style: u64, x: u64, most: u64) -> i64
 fn correction(style: u64, x: u64) -> i64 {
     if style == TINY {
         return value(style, x, 11) - 6;
+    }
+    if style == NEGATIVE {
+        return value(style, x, 99_999_999_999) - 100_000_000_000;
     }
     value(style, x, 200_000_000_000) - 100_000_000_000
 }
@@ -162,6 +168,35 @@ fn show(
     put(b"\n");
 }
 
+// A month that can be; the first and the last of all where ends are drawn.
+fn month_of(style: u64, x: u64) -> i64 {
+    if (style == EDGE) & (x % 4 == 0) {
+        return 200_001;
+    }
+    if (style == EDGE) & (x % 4 == 1) {
+        return 209_912;
+    }
+    (200_000 + x % 100 * 100 + x / 100 % 12 + 1) as i64
+}
+
+// A month of these agents, printed.
+fn row(month: i64, ons: i64, debits: i64, agents: [[i64; 7]; 3]) {
+    let mut pb = [0i64; 3];
+    let mut vmant = [0i64; 3];
+    let mut each = [0i64; 3];
+    let mut vc = [0i64; 4];
+    show(
+        month,
+        ons,
+        debits,
+        &agents,
+        &mut pb,
+        &mut vmant,
+        &mut each,
+        &mut vc,
+    );
+}
+
 // A month of three agents, printed; answers where the generator stands after it.
 fn month(style: u64, state: u64) -> u64 {
     let s1 = next(state);
@@ -173,20 +208,11 @@ fn month(style: u64, state: u64) -> u64 {
     let l1 = d1.line;
     let l2 = d2.line;
     let l3 = d3.line;
-    let agents = [l1, l2, l3];
-    let mut pb = [0i64; 3];
-    let mut vmant = [0i64; 3];
-    let mut each = [0i64; 3];
-    let mut vc = [0i64; 4];
-    show(
-        (200_000 + s1 % 100 * 100 + s1 / 100 % 12 + 1) as i64,
+    row(
+        month_of(style, s1),
         value(style, s2, 100_000_000_000),
         value(style, s3, 1_689_600_000_000_000),
-        &agents,
-        &mut pb,
-        &mut vmant,
-        &mut each,
-        &mut vc,
+        [l1, l2, l3],
     );
     d3.state
 }
@@ -194,14 +220,37 @@ fn month(style: u64, state: u64) -> u64 {
 fn months(style: u64, seed: u64) {
     let mut state = seed;
     let mut i: u64 = 0;
-    while i < 100 {
+    while i < 200 {
         state = month(style, state);
         i += 1;
     }
 }
 
+// Agents with pa of 25, −1 and 0.
+fn case(month: i64) {
+    row(
+        month,
+        0,
+        0,
+        [
+            [1, 1, 0, 0, 0, 25, 0],
+            [2, 1, 0, 0, 0, -1, 0],
+            [3, 1, 0, 0, 0, 0, 0],
+        ],
+    );
+}
+
+// h: of 25, 2 in July and 3 in June. i: of −1, −1 in July and 0 in August.
+fn cases() {
+    case(202_407);
+    case(202_408);
+    case(202_506);
+}
+
 fn main() {
+    cases();
     months(ANY, 1);
     months(TINY, 2);
     months(EDGE, 3);
+    months(NEGATIVE, 4);
 }

@@ -28,7 +28,8 @@ use Rattle.charges.specs.declared.scan.Sums.{Sums}
 use Rattle.charges.specs.Scan.{scanned}
 use Rattle.charges.specs.Month.{pvOf, Month, firstUses, firstOverruns}
 use Rattle.charges.proofs.Scanned.{scan-law}
-use Rattle.charges.proofs.Ready.{Tested, pv-asked, uses-asked, pv-is, uses-sum-is, ready}
+use Rattle.charges.proofs.Ready.{Tested, in-range, uses-asked, pv-is, uses-sum-is, ready}
+use Rattle.credits.proofs.Tested.{agent-lines}
 use Rattle.charges_main.proofs.show_bills.Statement.{statement}
 use Rattle.charges_main.proofs.show_bills.Tie as tie
 
@@ -118,7 +119,7 @@ module _ (c : tie.After-enum-told5) where
   long = omega (arith, start .pre .0, ap (λ (s : Sums). length (s .uses)) scan-is, scan-law (map userOf users) points (start .pre .1 .few) .uses-count)
 
 pv-total-requires : tie.Need-pv-total-requires
-pv-total-requires c κs = pv-asked (pos 202407) (pos 0) (agents c) (users c) (points c) (held c) (tested c)
+pv-total-requires c κs = agent-lines (in-range (pos 202407) (pos 0) (agents c) (users c) (points c) (held c) (tested c))
 
 array-share-prefix-uses : tie.Need-array-share-prefix-uses
 array-share-prefix-uses c = long (c .before .before)

@@ -1,14 +1,14 @@
--- The loop counts to 100.
+-- The loop counts to 200.
 use Prim.Native.Nat.{_-_, _≤_}
 use borrow.Author.Needs.{needs}
 use Rattle.credits_main.proofs.months.Statement.{statement}
 use Rattle.credits_main.proofs.months.Tie as tie
 
 abbrev Inv-loop : tie.InvT-loop
-Inv-loop style seed state₀ i₀ state i = i ≤ 100
+Inv-loop style seed state₀ i₀ state i = i ≤ 200
 
 abbrev μ-loop : tie.MeasureT-loop
-μ-loop style seed state₀ i₀ state i = 100 - i
+μ-loop style seed state₀ i₀ state i = 200 - i
 
 loop-holds : tie.Need-loop-holds Inv-loop μ-loop
 loop-holds c = search needs

@@ -1,25 +1,22 @@
 -- Within the range the month is above 0, where the remainder of `%` is mm.
-use Prim.Native.Nat.{_/_}
 use mathlib.Core.Path.{_≡_, sym, _∙_}
-use mathlib.Core.Bool.{true, false, _||_}
+use mathlib.Core.Bool.{false}
 use borrow.Author.Needs.{needs}
-use lib.IntN.{ℤ, pos, negsuc, _*ℤ_}
+use lib.IntN.{ℤ, pos}
 use lib.Signed.{remZ, quotZ, _≤ℤ_}
 use mir.Syntax.{w64}
 use mir.Val.{SFits}
 use mir.Facts.{toZ-ofZ}
-use Rattle.ints.specs.Bridge.{za, sub#, mul#}
-use Rattle.ints.specs.Floor.{floor}
+use Rattle.ints.specs.Bridge.{za}
 use Rattle.ints.specs.Range.{outside, outside-false}
-use Rattle.ints.specs.Words.{quot-small, rem-small}
+use Rattle.ints.specs.Words.{quot-small, rem-small, rem-floor}
 use Rattle.rules.specs.Calendar.{monthOfYear, impossibleMonth}
 use Rattle.limits.proofs.months.impossible_month.Statement.{statement}
 use Rattle.limits.proofs.months.impossible_month.Tie as tie
 
 mm : (m : ℤ) → pos 200001 ≤ℤ m → remZ m (pos 100) ≡ monthOfYear m
-unfolding monthOfYear floor
-mm (pos a) h = omega (za, sub# (pos a) (pos (a / 100) *ℤ pos 100), mul# (pos (a / 100)) (pos 100))
-mm (negsuc a) h = absurd (omega za)
+unfolding monthOfYear
+mm m h = let z : pos 0 ≤ℤ m = omega za in rem-floor m 100 z
 
 quot-fits : (m : ℤ) → outside (pos 200001) (pos 209912) m ≡ false → SFits w64 (quotZ m (pos 100))
 quot-fits m e = let w = outside-false _ _ m e in omega (za, quot-small m (pos 100))

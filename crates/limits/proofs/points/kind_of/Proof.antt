@@ -1,21 +1,19 @@
 -- Past the test the user's number less 1 is an index of its line.
-use Prim.Native.Nat.{ℕ, zero, suc, _*_, _≤_, _<_, _^_}
+use Prim.Native.Nat.{ℕ, zero, suc, _≤_, _<_, _^_}
 use mathlib.Core.Path.{_≡_, refl, sym, ap, _∙_}
 use mathlib.Core.Bool.{true, false, true≢false}
 use mathlib.Core.List.{List, [], map}
 use native.Mathlib.Omega.{arith}
 use native.Mathlib.Decide.{decLe}
 use borrow.Author.Needs.{needs}
-use lib.Dec.{T}
 use lib.IntN.{ℤ, pos, negsuc, natAbs, _-ℤ_}
 use lib.ListN.{length, getD, length-map, List·getD-map, List·getD-eq-default}
-use lib.Signed.{nonNeg}
 use mir.Syntax.{w64}
-use mir.Val.{SFits, Fits}
+use mir.Val.{SFits}
 use mir.Facts.{toZ-ofZ, toZ-pos}
 use Rattle.ints.specs.Bridge.{abs-is, za, sub#, one#}
 use Rattle.ints.specs.Range.{outside, outside-false, within-false}
-use Rattle.ints.specs.Words.{back}
+use Rattle.ints.specs.Words.{back, Index, index}
 use Rattle.rules.specs.Lines.{User, userOf, kindOf}
 use Rattle.limits.proofs.points.kind_of.Statement.{statement}
 use Rattle.limits.proofs.points.kind_of.Tie as tie
@@ -35,15 +33,6 @@ module _ (xs : List (List ℤ)) where
       let h : length (map userOf xs) ≤ k = rw (length-map xs userOf) (past k e) in
       sym (ap (λ (v : User). v .kind) (List·getD-eq-default (map userOf xs) (userOf []) h))
   no-kind (negsuc k) e = refl
-
-  index : (u : ℤ) → outside (pos 1) (pos (length xs)) u ≡ false → natAbs (u -ℤ pos 1) < length xs
-  index u e = let w = outside-false _ _ u e in omega (za, sub# u (pos 1), abs-is (u -ℤ pos 1), one# (u -ℤ pos 1))
-
-  word : (u : ℤ) → length xs < 2 ^ 63 → outside (pos 1) (pos (length xs)) u ≡ false → SFits w64 (u -ℤ pos 1)
-  word u h e = omega (za, index u e, abs-is (u -ℤ pos 1))
-
-  castable : (u : ℤ) → length xs < 2 ^ 63 → outside (pos 1) (pos (length xs)) u ≡ false → T (nonNeg (u -ℤ pos 1)) × Fits w64 (natAbs (u -ℤ pos 1))
-  castable u h e = let w = outside-false _ _ u e in let f = word u h e in omega (za, sub# u (pos 1), one# (u -ℤ pos 1))
 
   kind-at : (u : ℤ) → outside (pos 1) (pos (length xs)) u ≡ false → getD (getD xs (natAbs (u -ℤ pos 1)) []) 1 (pos 0) ≡ kindOf (map userOf xs) u
   unfolding kindOf
@@ -75,23 +64,23 @@ module _ (c : tie.Else1) where
   abbrev xs : List (List ℤ)
   xs = s .args .users .now
 
-  short : length xs < 2 ^ 63
-  short = omega arith
-
   there : outside (pos 1) (pos (length xs)) (s .args .user) ≡ false
   there = sym (tested (c .before)) ∙ c .if1 .left
 
+  at : Index (length xs) (s .args .user)
+  at = index (length xs) (s .args .user) (omega arith) there
+
 sub-line : tie.Need-sub-line
-sub-line c = simp (toZ-ofZ, s c .fits .user) (word (xs c) _ (short c) (there c))
+sub-line c = simp (toZ-ofZ, s c .fits .user) (at c .fits)
 
 cast-line : tie.Need-cast-line
-cast-line c = simp (toZ-ofZ, s c .fits .user, word (xs c) _ (short c) (there c)) (castable (xs c) _ (short c) (there c))
+cast-line c = simp (toZ-ofZ, s c .fits .user, at c .fits) (at c .cast)
 
 mul-line : tie.Need-mul-line
-mul-line c = simp (toZ-ofZ, s c .fits .user, word (xs c) _ (short c) (there c)) (omega (arith, index (xs c) _ (there c)))
+mul-line c = simp (toZ-ofZ, s c .fits .user, at c .fits) (omega (arith, at c .at))
 
 shared-slice-copy-out-line : tie.Need-shared-slice-copy-out-line
-shared-slice-copy-out-line c = simp (toZ-ofZ, s c .fits .user, word (xs c) _ (short c) (there c)) (index (xs c) _ (there c))
+shared-slice-copy-out-line c = simp (toZ-ofZ, s c .fits .user, at c .fits) (at c .at)
 
 array-copy-out-result : tie.Need-array-copy-out-result
 array-copy-out-result c = search needs
@@ -100,7 +89,7 @@ returns-2 : tie.Need-returns-2
 returns-2 c =
     let d = c .before .before in
     let f : SFits w64 (getD (getD (xs d) (natAbs (back (back (s d .args .user) -ℤ pos 1))) []) 1 (pos 0)) = search needs in
-    toZ-ofZ f ∙ simp (toZ-ofZ, s d .fits .user, word (xs d) _ (short d) (there d)) (kind-at (xs d) _ (there d))
+    toZ-ofZ f ∙ simp (toZ-ofZ, s d .fits .user, at d .fits) (kind-at (xs d) _ (there d))
 
 pub kind-of-spec : {M : Type 1} → statement M
 kind-of-spec =
