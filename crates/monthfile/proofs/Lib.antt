@@ -9,3 +9,5 @@ pub mod ValueSteps
 pub mod LineSteps
 pub mod ItemSteps
 pub mod Checking
+pub mod DigitSteps
+pub mod ReadSteps

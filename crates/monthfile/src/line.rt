@@ -53,7 +53,7 @@ fn starts_line(b: u8) -> bool
     (b == 45) | ((48 <= b) & (b < 58))
 }
 
-fn line_here(text: &[u8], i: usize) -> bool
+pub fn line_here(text: &[u8], i: usize) -> bool
     requires { ⌜ i ≤ length (now text) ⌝ }
     ensures { λ r. ⌜ r ≡ lineHere (drop i (now (text .entry))) ⌝ }
 {
