@@ -11,3 +11,4 @@ pub mod ItemSteps
 pub mod Checking
 pub mod DigitSteps
 pub mod ReadSteps
+pub mod FileSteps

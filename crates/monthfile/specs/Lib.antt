@@ -1,3 +1,4 @@
 pub mod Passing
 pub mod Table
 pub mod At
+pub mod Reads
