@@ -12,3 +12,5 @@ pub mod Checking
 pub mod DigitSteps
 pub mod ReadSteps
 pub mod FileSteps
+pub mod PointSteps
+pub mod WholeFile

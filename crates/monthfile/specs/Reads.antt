@@ -17,6 +17,7 @@ use Rattle.monthfile.specs.declared.reading.Reading.{Reading}
 use Rattle.monthfile.specs.declared.reading.Reading.the-variants.{Accepted, Refused}
 use Rattle.monthfile.specs.declared.reading.Month.{Month}
 use Rattle.monthfile.specs.declared.reading.Started.{Started}
+use Rattle.monthfile.specs.declared.points.PointLine.{PointLine}
 
 -- WHAT READING ANSWERS: of a file its month line, its counts and the position after it; of a refusal paper 01's number and place
 abbrev pub header : File → ℕ → Header
@@ -122,3 +123,9 @@ answerOf b n = answerBy b n (b .verdict)
 pub record PointsFilled (t : List ℕ) (i room : ℕ) (points points' : List Point) (n : ℕ) : Type 0 where
   pub count : n ≡ length (readLines room 9 (drop i t) .got)
   pub stored : points' ≡ map pointOf (readLines room 9 (drop i t) .got) ++ drop n points
+
+-- a point's line at a place
+pub record PointAt (t : List ℕ) (i : ℕ) (r : PointLine) : Type 0 where
+  pub point : r .point ≡ pointOf (readLine 9 (drop i t) .got)
+  pub left : readLine 9 (drop i t) .left ≡ drop (r .next) t
+  pub within : r .next ≤ length t
