@@ -2,12 +2,13 @@
  * Rateio for C and C++: link librateio_c.a, which `rt staticlib rateio_c` writes to target/staticlib/ (x86-64 Linux).
  *
  * Every function here is proved to answer what its comment says, for all values of its arguments: none is undefined
- * behaviour. None keeps state, allocates, writes through a pointer or raises a signal; any number of threads may call
- * them at once.
+ * behaviour. A text is lent as a pointer, not NULL, and the count of bytes there, which nobody writes meanwhile. None
+ * keeps state, allocates, writes through a pointer or raises a signal; any number of threads may call them at once.
  */
 #ifndef RATEIO_H
 #define RATEIO_H
 
+#include <stddef.h>
 #include <stdint.h>
 
 #ifdef __cplusplus
@@ -48,6 +49,29 @@ extern "C" {
  * neighbours add up to the part of both (before of the first, through of the last), and a weight of 0 gets 0.
  */
 int64_t rateio_share(int64_t p, int64_t before, int64_t through, int64_t w);
+
+/* The longest text, in bytes, that rateio_check looks at: 10^15. */
+#define RATEIO_CHECK_LIMIT INT64_C(1000000000000000)
+
+/* What rateio_check answers but a place, which is 0 or more. */
+#define RATEIO_CHECK_FILES    INT64_C(-1) /* one or more month files on end */
+#define RATEIO_CHECK_TOO_LONG INT64_C(-2) /* over RATEIO_CHECK_LIMIT bytes: not looked at */
+
+/*
+ * Whether a text is one or more month files on end.
+ *
+ *   text, length   the bytes
+ *
+ * Answers RATEIO_CHECK_FILES where it is. Otherwise it answers the place of the first byte, from 0, that no text of month
+ * files could have there after the bytes before it; where they all could stand at the start of such a text, but it may
+ * not end there, the place is the text's length. So 0 for an empty text. RATEIO_CHECK_TOO_LONG for a text over the limit.
+ *
+ * A month file has four blocks, each a line of names and lines of values: one line of month,ons; then any count of lines
+ * of agent,pb,pv,afs,rfs,pa,ret; of user,kind,ret; and of at,tp,tf,dp,df,mp,mf,vp,vf. Values are parted by commas, and
+ * every line ends in LF. A value is 1 to 18 digits with no leading zero but in 0 itself, after one minus sign if it is
+ * negative. Whether values lie in their limits is not looked at. Each byte is looked at once.
+ */
+int64_t rateio_check(const uint8_t *text, size_t length);
 
 #ifdef __cplusplus
 }

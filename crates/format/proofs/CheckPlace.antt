@@ -8,15 +8,16 @@ use mathlib.Core.List.{List, [], _∷_}
 use native.Mathlib.Omega.{arith}
 use native.Mathlib.Decide.{decLe}
 use lib.Dec.{leb, eqb}
-use lib.ListN.{length, drop, length-drop}
+use lib.ListN.{length, drop, length-drop, drop-of-length-le}
 use lib.Seq.{drop-drop}
 use lib.IntN.{pos, negsuc}
 use borrow.Author.Tests.{leb-true}
 use Rattle.format.specs.Bytes.{startsLine}
-use Rattle.format.specs.Blocks.{free, slices}
+use Rattle.format.specs.Blocks.{free, slices, blocks}
 use Rattle.format.specs.Grammar.{line, File}
 use Rattle.format.specs.Machine.{State, stuck, at, value, isStuck, step, final, endsBefore, format, start, onward, Verdict, passes, fails, judge, number, checkOf}
 use Rattle.format.specs.Reading.{tooMany, scan, scanAt, Answer, accepted, refused, answer, reading, ReadsOn, last, then, ComesBack, here, further}
+use Rattle.format.specs.Values.{readBlocks, fileOf}
 use Rattle.format.specs.Counting.{many, after, capacity, full, counted, scanBy}
 use Rattle.format.specs.declared.Scanned.{Scanned}
 use Rattle.format.specs.declared.Scanned.the-variants.{Whole, Faulty, Full}
@@ -214,6 +215,37 @@ module _ (a u p : ℕ) (t : List ℕ) (ha : length t ≤ a) (hu : length t ≤ u
       let b = next-within a u p t from next f e in
       let n : next ≡ from + g .past = omega (arith, g .here) in
       (i .0, g .goes ∙ goes-on next from (g .past) n h ∙ i .1)
+
+  -- BY READING'S VERDICTS: how the check goes on from a position, as a program finds it
+  pub never-too-many : (from q : ℕ) → scanAt (slices a u p) t from ≡ Full q → ⊥
+  unfolding scanAt
+  never-too-many from q e = never-full (min from (length t)) from q e
+
+  pub check-fault : (from q : ℕ) → scanAt (slices a u p) t from ≡ Faulty q → judge (start free) (min from (length t)) (drop from t) ≡ fails q
+  unfolding scanAt
+  check-fault from q e = same-fault (start free) (min from (length t)) (drop from t) q (wide-verdict (min from (length t)) from (Faulty q) e)
+
+  module _ (from next : ℕ) (e : scanAt (slices a u p) t from ≡ Whole next) where
+    pub check-forward : (from < next) × (next ≤ length t)
+    unfolding reading
+    check-forward = next-within a u p t from next _ (ap (answer (fileOf (readBlocks (blocks (slices a u p)) (drop from t) .got))) e)
+
+    whole-end : Goes (start free) (min from (length t)) (drop from t) next
+    unfolding scanAt
+    whole-end = same-end (start free) (min from (length t)) (drop from t) next (wide-verdict (min from (length t)) from (Whole next) e)
+
+    next-is : next ≡ from + whole-end .past
+    next-is = let b = check-forward in omega (arith, whole-end .here)
+
+    pub check-on : next < length t → judge (start free) (min from (length t)) (drop from t) ≡ judge (start free) (min next (length t)) (drop next t)
+    check-on h = whole-end .goes ∙ goes-on next from (whole-end .past) next-is h
+
+    pub check-last : length t ≤ next → judge (start free) (min from (length t)) (drop from t) ≡ passes
+    check-last h =
+        let n = next-is in
+        let l : length t ≤ from + whole-end .past = omega arith in
+        let d : drop (whole-end .past) (drop from t) ≡ [] = drop-drop (whole-end .past) from t ∙ drop-of-length-le t l in
+        whole-end .goes ∙ ap (goesOn next) d
 
   -- each file is read, or one comes back
   either : (fuel from : ℕ) → length t - from < fuel → ReadsOn a u p t from ⊎ ((c : ℕ) × ((q : ℕ) × ComesBack a u p t from c q))

@@ -5,7 +5,8 @@
 --   FileCheck   refusal 11's place is paper 01's (`judged`), and so is the file check's answer (`file-check`)
 --   Answers     reading's answer is what paper 01 says (`reads`), and no other is (`one-answer`, `reading-is`); `round-trip`
 --   FileByFile  a text is files on end exactly where reading reads file after file to its end (`file-by-file`, `checked-by-reading`)
---   CheckPlace  the file check's place is that of the file that comes back (`checked-by-refusal`)
+--   CheckPlace  the file check's place is that of the file that comes back (`checked-by-refusal`), and how a
+--               program finds it file by file (`check-fault`, `check-on`, `check-last`)
 --   Counts      reading's verdict by a count of lines, for a program (`counts`, `counts-at`)
 --   Examples    paper 01's file and its refusals, by computation
 pub mod Decimals

@@ -1,0 +1,105 @@
+-- Each value before the last has its comma, and the last its LF. Assumes nothing.
+use Prim.Native.Nat.{ℕ, _+_, _-_, _≤_, _<_}
+use mathlib.Core.Path.{_≡_, refl, ap, sym, _∙_}
+use native.Mathlib.Omega.{arith}
+use borrow.Author.Needs.{needs}
+use mathlib.Core.List.{List}
+use lib.ListN.{length}
+use Rattle.format.specs.Machine.{Item, fresh, value}
+use Rattle.format.specs.Bytes.{lf}
+use Rattle.monthfile.specs.Passing.{closing, opens}
+use Rattle.monthfile.proofs.Joining.{Comes, told, into, after, stays-faulty, stays-full}
+use Rattle.monthfile.proofs.LineSteps.{comma-next, value-next}
+use Rattle.monthfile.proofs.line.line.Statement.{statement}
+use Rattle.monthfile.proofs.line.line.Tie as tie
+use Rattle.monthfile.proofs.line.line.Reads as reads
+use Rattle.monthfile.proofs.line.line.Lts as lts
+use Rattle.monthfile.proofs.line.entry.Reads as entry-reads
+
+abbrev Inv-loop : tie.InvT-loop
+Inv-loop text i commas here₀ left₀ here left = (i ≤ here) × ((here ≤ length text) × Comes text i (value fresh commas) here (value fresh left))
+
+abbrev μ-loop : tie.MeasureT-loop
+μ-loop text i commas here₀ left₀ here left = left
+
+-- src/line.rt:39:5
+loop-holds : tie.Need-loop-holds Inv-loop μ-loop
+loop-holds c = (omega arith, (omega arith, λ f. refl))
+
+-- src/line.rt:40:15
+entry-requires : tie.Need-entry-requires Inv-loop μ-loop
+entry-requires c κs = omega arith
+
+-- src/line.rt:41:28
+enum-known-n : tie.Need-enum-known-n Inv-loop μ-loop
+enum-known-n c = search needs
+
+-- src/line.rt:42:29
+enum-known-p : tie.Need-enum-known-p Inv-loop μ-loop
+enum-known-p c = search needs
+
+-- src/line.rt:42:35
+returns : tie.Need-returns Inv-loop μ-loop
+returns c =
+    let at = c .before .before .before .before .before in
+    let e = c .before .before .before .entry .ensures (at .loop .left) (comma-next (at .loop .left) (omega arith)) in
+    after _ _ _ _ _ _ (omega arith) (at .loop .inv .1 .1) (stays-faulty _ _ _ _ _ _ (told _ _ _ _ (c .before .p .given .1) e))
+
+-- src/line.rt:43:27
+enum-known-p-2 : tie.Need-enum-known-p-2 Inv-loop μ-loop
+enum-known-p-2 c = search needs
+
+-- src/line.rt:43:33
+returns-2 : tie.Need-returns-2 Inv-loop μ-loop
+returns-2 c =
+    let at = c .before .before .before .before .before in
+    let e = c .before .before .before .entry .ensures (at .loop .left) (comma-next (at .loop .left) (omega arith)) in
+    after _ _ _ _ _ _ (omega arith) (at .loop .inv .1 .1) (stays-full _ _ _ _ _ _ (told _ _ _ _ (c .before .p2 .given .1) e))
+
+-- src/line.rt:45:9
+sub-left : tie.Need-sub-left Inv-loop μ-loop
+sub-left c = omega arith
+
+-- src/line.rt:39:5
+loop-less : tie.Need-loop-less Inv-loop μ-loop
+loop-less c = omega arith
+
+-- src/line.rt:39:5
+loop-again : tie.Need-loop-again Inv-loop μ-loop
+loop-again c =
+    let at = c .before .before .before .before .before in
+    let e = told _ _ _ _ (c .before .n .given .1) (c .before .before .before .entry .ensures (at .loop .left) (comma-next (at .loop .left) (omega arith))) in
+    let w = e .within in
+    (omega arith, (omega arith, λ f. at .loop .inv .1 .1 f ∙ e .goes f ∙ value-next _ _ (at .loop .left) (omega arith) f))
+
+-- src/line.rt:47:5
+entry-requires-2 : tie.Need-entry-requires-2 Inv-loop μ-loop
+entry-requires-2 c κs = omega arith
+
+-- src/line.rt:33:1
+returns-3 : tie.Need-returns-3 Inv-loop μ-loop
+returns-3 c =
+    let at = c .before .before in
+    let z : at .loop .left ≡ 0 = omega arith in
+    let e : lf ≡ closing (at .loop .left) = ap closing (sym z) in
+    let o : (f : List Item) → opens (at .loop .left) f ≡ opens 0 f = λ f. ap (λ (n : ℕ). opens n f) z in
+    after _ _ _ _ _ _ (omega arith) (at .loop .inv .1 .1) (into _ _ _ _ _ _ o (c .entry2 .ensures (at .loop .left) e))
+
+pub line-spec : {M : Type 1} → statement M
+line-spec =
+    tie.close
+    (tie.spec
+    Inv-loop
+    μ-loop
+    loop-holds
+    entry-requires
+    enum-known-n
+    enum-known-p
+    returns
+    enum-known-p-2
+    returns-2
+    sub-left
+    loop-less
+    loop-again
+    entry-requires-2
+    returns-3)

@@ -1,0 +1,62 @@
+-- Assumes nothing.
+use mathlib.Core.Path.{_≡_, refl, sym, _∙_}
+use native.Mathlib.Omega.{arith}
+use mir.Syntax.{w64}
+use mir.Val.{SFits}
+use mir.Facts.{toZ-ofZ}
+use Rattle.monthfile.proofs.FileSteps.{month-read, no-month}
+use borrow.Author.Needs.{needs}
+use Rattle.monthfile.proofs.reading.month_at.Statement.{statement}
+use Rattle.monthfile.proofs.reading.month_at.Tie as tie
+use Rattle.monthfile.proofs.reading.month_at.Reads as reads
+use Rattle.monthfile.proofs.reading.month_at.Lts as lts
+use Rattle.monthfile.proofs.line.line_here.Reads as line-here-reads
+use Rattle.monthfile.proofs.values.on.Reads as on-reads
+use Rattle.monthfile.proofs.values.value_at.Reads as value-at-reads
+
+-- src/reading.rt:40:8
+line-here-requires : tie.Need-line-here-requires
+line-here-requires c κs = search needs
+
+-- src/reading.rt:41:13
+value-at-requires : tie.Need-value-at-requires
+value-at-requires c κs = search needs
+
+-- src/reading.rt:42:32
+on-requires : tie.Need-on-requires
+on-requires c κs = search needs
+
+-- src/reading.rt:42:13
+value-at-requires-2 : tie.Need-value-at-requires-2
+value-at-requires-2 c κs = search needs
+
+-- src/reading.rt:46:19
+on-requires-2 : tie.Need-on-requires-2
+on-requires-2 c κs = search needs
+
+-- src/reading.rt:43:9
+returns : tie.Need-returns
+returns c =
+    let m = c .before .before .before .before .before .value-at in
+    let o = c .before .before .before .value-at2 in
+    let f : SFits w64 (m .result .value) = search needs in
+    let g : SFits w64 (o .result .value) = search needs in
+    rw (toZ-ofZ f, toZ-ofZ g)
+    (month-read _ _ _ _ _ _ _ _ (sym (c .before .before .before .before .before .before .before .line-here .ensures) ∙ c .before .before .before .before .before .before .if1 .taken) (m .ensures) (c .before .before .before .before .on .ensures)
+    (o .ensures) (c .before .before .on2 .ensures))
+
+-- src/reading.rt:36:1
+returns-2 : tie.Need-returns-2
+returns-2 c = no-month _ _ (omega arith) (sym (c .before .line-here .ensures) ∙ c .if1 .left)
+
+pub month-at-spec : {M : Type 1} → statement M
+month-at-spec =
+    tie.close
+    (tie.spec
+    line-here-requires
+    value-at-requires
+    on-requires
+    value-at-requires-2
+    on-requires-2
+    returns
+    returns-2)

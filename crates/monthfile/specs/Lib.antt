@@ -1,0 +1,4 @@
+pub mod Passing
+pub mod Table
+pub mod At
+pub mod Reads

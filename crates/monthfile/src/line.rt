@@ -1,0 +1,85 @@
+// Lines of values passed over (paper 01, "The month file"): values parted by commas, lines ended by LF.
+ghost use mathlib.Core.Path.{_≡_};
+ghost use Prim.Native.Nat.{ℕ, _≤_};
+ghost use lib.ListN.{length, drop};
+ghost use Rattle.format.specs.Blocks.{upTo};
+ghost use Rattle.format.specs.Bytes.{startsLine};
+ghost use Rattle.format.specs.Values.{lineHere};
+ghost use Rattle.format.specs.Machine.{fresh, at, value as inValue};
+ghost use Rattle.monthfile.specs.Passing.{Passes, closing, opens, several};
+use format::Scanned;
+
+// A value with the byte that must follow it.
+fn entry(text: &[u8], i: usize, end: u8) -> Scanned
+    requires { ⌜ i ≤ length (now text) ⌝ }
+    ensures { λ r. ⌜ ((k : ℕ) → end ≡ closing k → Passes (now (text .entry)) i (inValue fresh k) (opens k) r) ⌝ }
+{
+    match crate::value::value(text, i) {
+        Scanned::Whole(n) => {
+            if text.len() <= n {
+                return Scanned::Faulty(n);
+            }
+            if text[n] == end {
+                return Scanned::Whole(n + 1);
+            }
+            Scanned::Faulty(n)
+        }
+        Scanned::Faulty(p) => Scanned::Faulty(p),
+        Scanned::Full(p) => Scanned::Full(p),
+    }
+}
+
+// A line of values with so many commas.
+pub fn line(text: &[u8], i: usize, commas: u16) -> Scanned
+    requires { ⌜ i ≤ length (now text) ⌝ }
+    ensures { λ r. ⌜ Passes (now (text .entry)) i (inValue fresh commas) at r ⌝ }
+{
+    let mut here = i;
+    let mut left = commas;
+    while 0 < left {
+        match entry(text, here, b',') {
+            Scanned::Whole(n) => here = n,
+            Scanned::Faulty(p) => return Scanned::Faulty(p),
+            Scanned::Full(p) => return Scanned::Full(p),
+        }
+        left -= 1;
+    }
+    entry(text, here, b'\n')
+}
+
+fn starts_line(b: u8) -> bool
+    ensures { λ r. ⌜ r ≡ startsLine b ⌝ }
+{
+    (b == 45) | ((48 <= b) & (b < 58))
+}
+
+pub fn line_here(text: &[u8], i: usize) -> bool
+    requires { ⌜ i ≤ length (now text) ⌝ }
+    ensures { λ r. ⌜ r ≡ lineHere (drop i (now (text .entry))) ⌝ }
+{
+    if i < text.len() {
+        return starts_line(text[i]);
+    }
+    false
+}
+
+// Lines of a block, as many as there are; Full where one begins that there is no room for.
+pub fn lines(text: &[u8], i: usize, commas: u16, room: usize) -> Scanned
+    requires { ⌜ i ≤ length (now text) ⌝ }
+    ensures { λ r. ⌜ Passes (now (text .entry)) i (several room commas) at r ⌝ }
+{
+    let mut here = i;
+    let mut left = room;
+    while line_here(text, here) {
+        if left == 0 {
+            return Scanned::Full(here);
+        }
+        match line(text, here, commas) {
+            Scanned::Whole(n) => here = n,
+            Scanned::Faulty(p) => return Scanned::Faulty(p),
+            Scanned::Full(p) => return Scanned::Full(p),
+        }
+        left -= 1;
+    }
+    Scanned::Whole(here)
+}

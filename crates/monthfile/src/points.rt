@@ -1,0 +1,83 @@
+// Connection points read into a lent slice of records, and one file read whole (paper 01, "Where to use each form"). Only points_at
+// stores to the slice of points; what a line says is point_line's matter, and the verdict begin's.
+ghost use mathlib.Core.Path.{_≡_};
+ghost use mathlib.Core.Bool.{_&&_};
+ghost use Prim.Native.Nat.{_≤_};
+ghost use lib.Dec.{ltb};
+ghost use lib.ListN.{length, drop};
+ghost use Rattle.format.specs.Values.{lineHere};
+ghost use Rattle.monthfile.specs.Reads.{PointAt, PointsFilled, Reads};
+use crate::line::line_here;
+use crate::reading::Reading;
+use crate::reading::begin;
+use crate::reading::finish;
+use crate::values::line_at;
+use rules::Point;
+
+// A point, and the place after its line.
+pub struct PointLine {
+    pub point: Point,
+    pub next: usize,
+}
+
+pub fn point_line(text: &[u8], at: usize) -> PointLine
+    requires { ⌜ at ≤ length (now text) ⌝ }
+    ensures { λ r. ⌜ PointAt (now (text .entry)) at r ⌝ }
+{
+    let mut row = [0i64; 9];
+    let next = line_at(text, at, &mut row);
+    let point = Point {
+        user: row[0],
+        tp: row[1],
+        tf: row[2],
+        dp: row[3],
+        df: row[4],
+        mp: row[5],
+        mf: row[6],
+        vp: row[7],
+        vf: row[8],
+    };
+    PointLine { point, next }
+}
+
+// Whether a further line begins here and there is room for it.
+pub fn more_points(text: &[u8], at: usize, n: usize, room: usize) -> bool
+    requires { ⌜ at ≤ length (now text) ⌝ }
+    ensures { λ r. ⌜ r ≡ (ltb n room && lineHere (drop at (now (text .entry)))) ⌝ }
+{
+    if n < room {
+        return line_here(text, at);
+    }
+    false
+}
+
+// The point lines from `at` on, at most `room` of them; how many there are is answered.
+pub fn points_at(text: &[u8], at: usize, room: usize, points: &mut [Point]) -> usize
+    requires { ⌜ (at ≤ length (now text)) × (room ≤ length (now points)) ⌝ }
+    ensures { λ r. ⌜ PointsFilled (now (text .entry)) at room (now (points .entry)) (now (points .exit)) r ⌝ }
+{
+    let mut i = at;
+    let mut n = 0;
+    while more_points(text, i, n, room) {
+        let l = point_line(text, i);
+        points[n] = l.point;
+        i = l.next;
+        n += 1;
+    }
+    n
+}
+
+// Reading one file on plain parameters, for a caller that keeps the text and the position itself.
+pub fn read_at(
+    text: &[u8],
+    from: usize,
+    agents: &mut [[i64; 7]],
+    users: &mut [[i64; 3]],
+    points: &mut [Point],
+) -> Reading
+    ensures { λ r. ⌜ Reads (now (text .entry)) from (now (agents .entry)) (now (users .entry)) (now (points .entry)) (now (agents .exit)) (now (users .exit)) (now (points .exit)) r ⌝ }
+{
+    let b = begin(text, from, agents, users, points.len());
+    let n = points_at(text, b.at, b.room, points);
+    finish(b, n)
+}

@@ -1,0 +1,51 @@
+// A block's lines read into the slice lent for them. Entries beyond the lines are left as they are.
+ghost use mathlib.Core.Path.{_≡_};
+ghost use Prim.Native.Nat.{_≤_};
+ghost use lib.ListN.{length};
+ghost use Rattle.monthfile.specs.At.{Filled, asRead};
+use crate::line::line_here;
+use crate::values::line_at;
+
+// How many lines were read, and the place after them.
+pub struct Lines {
+    pub count: usize,
+    pub next: usize,
+}
+
+pub fn agents_at(text: &[u8], at: usize, agents: &mut [[i64; 7]]) -> Lines
+    requires { ⌜ at ≤ length (now text) ⌝ }
+    ensures { λ r. ⌜ Filled asRead (now (text .entry)) at (length (now (agents .entry))) 7 (now (agents .entry)) (now (agents .exit)) (r .count) (r .next) ⌝ }
+{
+    let mut i = at;
+    let mut n = 0;
+    while n < agents.len() {
+        if line_here(text, i) {
+            let mut row = [0i64; 7];
+            i = line_at(text, i, &mut row);
+            agents[n] = row;
+            n += 1;
+        } else {
+            return Lines { count: n, next: i };
+        }
+    }
+    Lines { count: n, next: i }
+}
+
+pub fn users_at(text: &[u8], at: usize, users: &mut [[i64; 3]]) -> Lines
+    requires { ⌜ at ≤ length (now text) ⌝ }
+    ensures { λ r. ⌜ Filled asRead (now (text .entry)) at (length (now (users .entry))) 3 (now (users .entry)) (now (users .exit)) (r .count) (r .next) ⌝ }
+{
+    let mut i = at;
+    let mut n = 0;
+    while n < users.len() {
+        if line_here(text, i) {
+            let mut row = [0i64; 3];
+            i = line_at(text, i, &mut row);
+            users[n] = row;
+            n += 1;
+        } else {
+            return Lines { count: n, next: i };
+        }
+    }
+    Lines { count: n, next: i }
+}

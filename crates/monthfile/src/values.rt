@@ -1,0 +1,99 @@
+// The values of a file read from a text (paper 01, "The month file"), whatever text it is; the verdict is the scanner's.
+ghost use mathlib.Core.Path.{_≡_};
+ghost use Prim.Native.Nat.{_≤_};
+ghost use lib.ListN.{length, drop};
+ghost use Rattle.format.specs.Bytes.{isDigit};
+ghost use Rattle.monthfile.specs.At.{DigitsAt, ValueAt, LineAt, On};
+
+// A number read, and the place after it.
+pub struct Digits {
+    pub number: u64,
+    pub next: usize,
+}
+
+pub struct Value {
+    pub value: i64,
+    pub next: usize,
+}
+
+fn wide(b: u8) -> u64
+    ensures { λ r. ⌜ r ≡ b ⌝ }
+{
+    b as u64
+}
+
+fn is_digit(b: u64) -> bool
+    ensures { λ r. ⌜ r ≡ isDigit b ⌝ }
+{
+    (48 <= b) & (b < 58)
+}
+
+// Digits, at most 18.
+fn digits_at(text: &[u8], at: usize) -> Digits
+    requires { ⌜ at ≤ length (now text) ⌝ }
+    ensures { λ r. ⌜ DigitsAt (now (text .entry)) at r ⌝ }
+{
+    let mut number: u64 = 0;
+    let mut i = at;
+    let mut k: u64 = 0;
+    while k < 18 {
+        if text.len() <= i {
+            return Digits { number, next: i };
+        }
+        let b = wide(text[i]);
+        if is_digit(b) {
+            number = number * 10 + (b - 48);
+            i += 1;
+            k += 1;
+        } else {
+            return Digits { number, next: i };
+        }
+    }
+    Digits { number, next: i }
+}
+
+pub fn value_at(text: &[u8], at: usize) -> Value
+    requires { ⌜ at ≤ length (now text) ⌝ }
+    ensures { λ r. ⌜ ValueAt (now (text .entry)) at r ⌝ }
+{
+    if text.len() <= at {
+        return Value { value: 0, next: at };
+    }
+    if text[at] == 45 {
+        let d = digits_at(text, at + 1);
+        return Value {
+            value: 0 - (d.number as i64),
+            next: d.next,
+        };
+    }
+    let d = digits_at(text, at);
+    Value {
+        value: d.number as i64,
+        next: d.next,
+    }
+}
+
+// So many bytes on, at most to the end.
+pub fn on(length: usize, at: usize, by: usize) -> usize
+    requires { ⌜ at ≤ length ⌝ }
+    ensures { λ r. ⌜ On length at by r ⌝ }
+{
+    if length - at < by { length } else { at + by }
+}
+
+// A line of as many values as the row has, each with the byte after it; the place after it is answered.
+pub fn line_at(text: &[u8], at: usize, row: &mut [i64]) -> usize
+    requires { ⌜ at ≤ length (now text) ⌝ }
+    ensures { λ r. ⌜ LineAt (now (text .entry)) at (length (now (row .entry))) (now (row .exit)) r ⌝ }
+{
+    let mut i = at;
+    let mut k = 0;
+    while k < row.len() {
+        let v = value_at(text, i);
+        let x = v.value;
+        row[k] = x;
+        i = on(text.len(), v.next, 1);
+        k += 1;
+    }
+    i
+}

@@ -1,0 +1,54 @@
+/* A holding looks over a text before it hands it on: is it month files on end, and if not, where does it go wrong? */
+#include <inttypes.h>
+#include <stddef.h>
+#include <stdint.h>
+#include <stdio.h>
+#include <string.h>
+
+#include "rateio.h"
+
+#define NAMES_AND_MONTH "month,ons\n202407,100\n"
+#define AGENTS "agent,pb,pv,afs,rfs,pa,ret\n1,1000,0,0,0,0,4\n"
+#define USERS "user,kind,ret\n1,2,0\n"
+#define POINTS "at,tp,tf,dp,df,mp,mf,vp,vf\n1,1000,500,0,0,3,2,3,2\n"
+#define MONTH_FILE NAMES_AND_MONTH AGENTS USERS POINTS
+
+static void look(const char *what, const char *text, size_t length)
+{
+    int64_t answer = rateio_check((const uint8_t *)text, length);
+
+    printf("%-28s", what);
+    if (answer == RATEIO_CHECK_FILES)
+        printf("month files\n");
+    else if (answer == RATEIO_CHECK_TOO_LONG)
+        printf("too long\n");
+    else if ((size_t)answer == length)
+        printf("ends too soon, at %" PRId64 "\n", answer);
+    else
+        printf("byte %" PRId64 " (%02x hexadecimal) is wrong\n", answer, (unsigned char)text[answer]);
+}
+
+static void look_over(const char *what, const char *text)
+{
+    look(what, text, strlen(text));
+}
+
+int main(void)
+{
+    look_over("one file", MONTH_FILE);
+    look_over("two files", MONTH_FILE MONTH_FILE);
+    look_over("no points", NAMES_AND_MONTH AGENTS USERS "at,tp,tf,dp,df,mp,mf,vp,vf\n");
+    look_over("no text", "");
+    look_over("no last LF", "month,ons\n202407,100");
+    look_over("-0", "month,ons\n202407,-0\n");
+    look_over("leading zero", "month,ons\n0202407,100\n");
+    look_over("19 digits", "month,ons\n202407,1234567890123456789\n");
+    look_over("a second month line", NAMES_AND_MONTH "202408,100\n");
+    look_over("CR LF", "month,ons\r\n202407,100\r\n");
+    look_over("byte order mark", "\xef\xbb\xbf" MONTH_FILE);
+    look_over("a line after the file", MONTH_FILE "\n");
+    look("a byte 0", "month\0ons\n", 10);
+    /* The length alone decides here: no byte is looked at. */
+    look("10^15 + 1 bytes", "", RATEIO_CHECK_LIMIT + 1);
+    return 0;
+}

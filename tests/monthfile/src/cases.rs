@@ -1,0 +1,155 @@
+//! Texts by classes, each through the exported file check, the scanner by hand and the reference calculation.
+
+use crate::{exported, hand};
+use rateio_reference::json;
+use rateio_reference::months::{self, Counts, STYLES};
+use rateio_reference::read::check_text;
+use rateio_reference::rng::Rng;
+use rateio_reference::sample;
+use rateio_reference::texts;
+
+/// How many texts, and what the check answers.
+#[derive(Default)]
+struct Tally {
+    texts: u64,
+    files: u64,
+    ends: u64,
+    places: u64,
+}
+
+impl Tally {
+    fn compare(&mut self, text: &[u8]) {
+        let wanted = check_text(text);
+        let got = exported(text);
+        if got != wanted || hand::check(text) != wanted {
+            println!(
+                "DIFFERENT: {} or {}, wanted {}, of {:?}",
+                got,
+                hand::check(text),
+                wanted,
+                String::from_utf8_lossy(text)
+            );
+            std::process::exit(1);
+        }
+        self.texts += 1;
+        match wanted {
+            -1 => self.files += 1,
+            place if place == text.len() as i64 => self.ends += 1,
+            _ => self.places += 1,
+        }
+    }
+
+    fn print(&self, name: &str) {
+        println!("{:<26}{:>9}{:>9}{:>9}{:>9}", name, self.texts, self.files, self.ends, self.places);
+    }
+}
+
+/// Files on end, of any shape and any values.
+fn sound(rng: &mut Rng) -> Vec<u8> {
+    let mut text = Vec::new();
+    for _ in 0..1 + rng.below(3) {
+        let counts = Counts { agents: rng.below(4), users: rng.below(4), points: rng.below(5) };
+        let some = Counts { agents: 3, users: 3, points: 4 };
+        let lines = match rng.below(2) {
+            0 => texts::any_values(rng, counts),
+            _ => {
+                let style = rng.pick(&STYLES);
+                let counts = months::counts_up_to(rng, some);
+                months::month(rng, style, counts)
+            }
+        };
+        text.extend(texts::file(&lines));
+    }
+    text
+}
+
+/// A text written as other systems write it.
+fn foreign(rng: &mut Rng, text: &[u8]) -> Vec<u8> {
+    let mut text = text.to_vec();
+    match rng.below(6) {
+        0 => text = String::from_utf8(text).expect("ASCII").replace('\n', "\r\n").into_bytes(),
+        1 => drop(text.splice(0..0, *b"\xef\xbb\xbf")),
+        2 => drop(text.pop()),
+        3 => text.push(b'\n'),
+        4 => text.extend(b"month"),
+        _ => text = String::from_utf8(text).expect("ASCII").replace(',', ";").into_bytes(),
+    }
+    text
+}
+
+/// Every prefix, every byte changed to each other byte, every byte dropped, and each byte put in at every place.
+fn around(text: &[u8], compare: &mut dyn FnMut(&[u8])) {
+    for at in 0..=text.len() {
+        compare(&text[..at]);
+    }
+    for at in 0..text.len() {
+        let mut changed = text.to_vec();
+        for byte in 0..=255 {
+            changed[at] = byte;
+            compare(&changed);
+        }
+        changed.remove(at);
+        compare(&changed);
+    }
+    for at in 0..=text.len() {
+        for &byte in b"0159-,\nmau\r \0" {
+            let mut more = text.to_vec();
+            more.insert(at, byte);
+            compare(&more);
+        }
+    }
+}
+
+pub fn compare_all(readings: &str) {
+    println!("{:<26}{:>9}{:>9}{:>9}{:>9}", "texts", "all", "files", "at end", "place");
+    let mut all = Tally::default();
+    let mut class = |name: &str, fill: &mut dyn FnMut(&mut Tally)| {
+        let mut tally = Tally::default();
+        fill(&mut tally);
+        tally.print(name);
+        all.texts += tally.texts;
+        all.files += tally.files;
+        all.ends += tally.ends;
+        all.places += tally.places;
+    };
+    let mut rng = Rng::new(202_407);
+
+    class("empty", &mut |t| t.compare(b""));
+    class("stored readings", &mut |t| {
+        for line in std::fs::read_to_string(readings).expect(readings).lines() {
+            let vector = json::parse(line).expect(line);
+            let text = vector.field("text").and_then(|v| v.text()).expect(line);
+            let stored = vector.field("check").and_then(|v| v.number()).expect(line);
+            assert!(i128::from(exported(text)) == stored, "{}", line);
+            t.compare(text);
+        }
+    });
+    class("files of every shape", &mut |t| (0..30_000).for_each(|_| t.compare(&sound(&mut rng))));
+    class("damaged", &mut |t| {
+        for _ in 0..150_000 {
+            let text = sound(&mut rng);
+            t.compare(&texts::damaged(&mut rng, &text));
+        }
+    });
+    class("as others write", &mut |t| {
+        for _ in 0..6_000 {
+            let text = sound(&mut rng);
+            t.compare(&foreign(&mut rng, &text));
+        }
+    });
+    class("around the worked file", &mut |t| around(sample::INPUT.as_bytes(), &mut |text| t.compare(text)));
+    class("around small files", &mut |t| {
+        for counts in [[0, 0, 0], [1, 0, 1], [0, 1, 0]] {
+            let [agents, users, points] = counts;
+            let text = texts::file(&texts::any_values(&mut rng, Counts { agents, users, points }));
+            around(&text, &mut |text| t.compare(text));
+        }
+    });
+    class("cut in two files", &mut |t| {
+        let text = [sample::INPUT, sample::INPUT].concat();
+        (0..=text.len()).for_each(|at| t.compare(&text.as_bytes()[..at]));
+    });
+    all.print("together");
+    assert!(all.texts >= 100_000 && all.files > 10_000 && all.ends > 1_000 && all.places > 10_000);
+    println!("no differences");
+}
