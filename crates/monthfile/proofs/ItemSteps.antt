@@ -1,20 +1,20 @@
 -- Reading's verdict (format's `scan`) by the table: at a byte of names, at each entry, and after the last. Assumes nothing.
 use Prim.Native.Nat.{ℕ, zero, suc, _+_, _-_, _≤_, _<_, min}
-use mathlib.Core.Path.{_≡_, refl, ap, sym, _∙_, subst}
+use mathlib.Core.Path.{_≡_, refl, ap, sym, _∙_}
 use mathlib.Core.Bool.{Bool, true, false, cond}
 use mathlib.Core.List.{List, [], _∷_}
 use native.Mathlib.Omega.{arith}
 use native.Mathlib.Decide.{decLe}
-use lib.Dec.{ltb, eqb}
+use lib.Dec.{eqb}
 use lib.ListN.{length, drop, getD, drop-of-length-le}
 use borrow.Author.Tests.{lt-ltb, le-ltb, eq-eqb, ne-eqb, eqb-true, eqb-false}
 use Rattle.format.specs.Bytes.{m}
 use Rattle.format.specs.Blocks.{Rooms, slices}
 use Rattle.format.specs.Grammar.{line, more}
-use Rattle.format.specs.Machine.{Item, format, fresh, State, at, value, start, enter, step}
+use Rattle.format.specs.Machine.{Item, format, fresh, at, value, start, enter, step}
 use Rattle.format.specs.Reading.{scan, scanAt}
 use Rattle.format.specs.declared.Scanned.{Scanned}
-use Rattle.format.specs.declared.Scanned.the-variants.{Whole, Faulty, Full}
+use Rattle.format.specs.declared.Scanned.the-variants.{Whole, Faulty}
 use Rattle.monthfile.specs.Passing.{verdict, andThen, Passes, several}
 use Rattle.monthfile.specs.Table.{table, room, decode, decoded, table-is, itemOf, expects}
 use Rattle.monthfile.proofs.Joining.{faulty, passed}

@@ -3,7 +3,13 @@
 --   ValueSteps  in a value
 --   LineSteps   between values, and where lines begin
 --   ItemSteps   by the table
--- and Checking, the file check's answer from such verdicts
+--   Checking    the file check's answer from such verdicts
+-- What is read at a place of the text:
+--   DigitSteps  a value
+--   ReadSteps   values into a row, lines into a slice
+--   FileSteps   a file's blocks up to its points
+--   PointSteps  points into their slice
+--   WholeFile   all of it is format's reading (`whole-read`)
 pub mod Joining
 pub mod ValueSteps
 pub mod LineSteps

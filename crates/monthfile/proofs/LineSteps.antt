@@ -1,7 +1,7 @@
 -- Reading's verdict (format's `scan`) between values and where lines begin. Assumes nothing.
 use Prim.Native.Nat.{ℕ, zero, suc, _+_, _-_, _≤_, _<_}
 use mathlib.Core.Path.{_≡_, refl, ap, sym, _∙_}
-use mathlib.Core.Bool.{Bool, true, false, false≢true, cond, and-false}
+use mathlib.Core.Bool.{true, false, false≢true, and-false}
 use mathlib.Core.List.{List, [], _∷_}
 use native.Mathlib.Omega.{arith}
 use native.Mathlib.Decide.{decLe}
@@ -12,10 +12,9 @@ use borrow.Author.Tests.{eq-eqb, ne-eqb}
 use Rattle.format.specs.Bytes.{lf, comma, m, startsLine}
 use Rattle.format.specs.Blocks.{one, upTo}
 use Rattle.format.specs.Values.{lineHere}
-use Rattle.format.specs.Machine.{Item, byte, lines, fresh, nought, State, stuck, at, value, isStuck, ends, inValue, enter, step, ended}
+use Rattle.format.specs.Machine.{Item, lines, fresh, nought, State, stuck, at, value, isStuck, ends, inValue, enter, step, ended}
 use Rattle.format.specs.Reading.{noRoom, scan}
-use Rattle.format.specs.declared.Scanned.{Scanned}
-use Rattle.format.specs.declared.Scanned.the-variants.{Whole, Faulty, Full}
+use Rattle.format.specs.declared.Scanned.the-variants.{Faulty, Full}
 use Rattle.monthfile.specs.Passing.{verdict, closing, opens, several}
 use Rattle.monthfile.proofs.ValueSteps.{here, byte-on, byte-stuck}
 

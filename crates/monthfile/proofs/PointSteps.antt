@@ -1,14 +1,14 @@
 -- Point lines one after the other into their slice, and the file that was read whole. Assumes nothing.
 use Prim.Native.Nat.{ℕ, _+_, _-_, _≤_, _<_}
-use mathlib.Core.Path.{_≡_, refl, ap, sym, _∙_, subst}
+use mathlib.Core.Path.{_≡_, refl}
 use mathlib.Core.Bool.{Bool, true, false, false≢true, _&&_}
-use mathlib.Core.List.{List, _++_, map}
+use mathlib.Core.List.{List}
 use native.Mathlib.Omega.{arith}
 use lib.Dec.{ltb}
 use lib.ListN.{length, drop, set}
-use lib.IntN.{ℤ, pos}
+use lib.IntN.{pos}
 use borrow.Author.Tests.{ltb-true, ltb-false}
-use Rattle.format.specs.Values.{readLine, lineHere, readLines}
+use Rattle.format.specs.Values.{readLine, lineHere}
 use Rattle.rules.specs.Lines.{pointOf}
 use Rattle.rules.specs.declared.Point.{Point}
 use Rattle.monthfile.specs.At.{Filled}

@@ -1,20 +1,18 @@
 -- Reading's verdict (format's `scan`) over the bytes of a value. Assumes nothing.
 use Prim.Native.Nat.{ℕ, zero, suc, _+_, _-_, _≤_, _<_}
 use mathlib.Core.Path.{_≡_, refl, ap, sym, _∙_}
-use mathlib.Core.Bool.{Bool, true, false, cond, _&&_}
+use mathlib.Core.Bool.{Bool, true, false}
 use mathlib.Core.List.{List, [], _∷_}
 use native.Mathlib.Numerals.{add-one}
 use native.Mathlib.Omega.{arith}
 use native.Mathlib.Decide.{decLe}
-use lib.Dec.{leb, ltb, eqb}
 use lib.ListN.{length, drop, getD, drop-of-length-le}
 use lib.Seq.{drop-cons}
-use borrow.Author.Tests.{lt-ltb, le-ltb, eq-eqb, ne-eqb}
-use Rattle.format.specs.Bytes.{lf, comma, minus, isDigit, isLead, Digit, is-digit}
-use Rattle.format.specs.Machine.{Item, Part, fresh, signed, nought, digits, State, stuck, at, value, isStuck, ends, lead, inValue, step}
+use borrow.Author.Tests.{lt-ltb, ne-eqb}
+use Rattle.format.specs.Bytes.{lf, comma, minus, isDigit, isLead, is-digit}
+use Rattle.format.specs.Machine.{Item, Part, fresh, signed, nought, digits, State, stuck, value, isStuck, ends, inValue, step}
 use Rattle.format.specs.Reading.{scan}
-use Rattle.format.specs.declared.Scanned.{Scanned}
-use Rattle.format.specs.declared.Scanned.the-variants.{Whole, Faulty, Full}
+use Rattle.format.specs.declared.Scanned.the-variants.{Faulty}
 use Rattle.monthfile.specs.Passing.{verdict}
 
 -- the text at a place inside it, and at its end

@@ -1,6 +1,6 @@
 -- One file read whole: judged and read up to its points, then the points, is format's reading. Assumes nothing.
 use Prim.Native.Nat.{ℕ, _≤_}
-use mathlib.Core.Path.{_≡_, refl, ap, sym, _∙_, subst}
+use mathlib.Core.Path.{_≡_, refl, ap, sym, _∙_}
 use mathlib.Core.List.{List, [], _++_, map}
 use native.Mathlib.Omega.{arith}
 use lib.ListN.{length, drop, length-map}
@@ -13,9 +13,9 @@ use Rattle.format.specs.declared.Scanned.{Scanned}
 use Rattle.format.specs.declared.Scanned.the-variants.{Whole, Faulty, Full}
 use Rattle.rules.specs.Lines.{pointOf}
 use Rattle.rules.specs.declared.Point.{Point}
-use Rattle.monthfile.specs.Reads.{header, answered, over, agentsAfter, usersAfter, pointsAfter, Reads, fileAt, Ready, Unread, Prepared, Begun, answerBy, answerOf, PointsFilled}
+use Rattle.monthfile.specs.Reads.{header, answered, over, agentsAfter, usersAfter, pointsAfter, Reads, fileAt, Ready, Prepared, Begun, answerBy, answerOf, PointsFilled}
 use Rattle.monthfile.specs.declared.reading.Reading.{Reading}
-use Rattle.monthfile.specs.declared.reading.Reading.the-variants.{Accepted, Refused}
+use Rattle.monthfile.specs.declared.reading.Reading.the-variants.{Accepted}
 use Rattle.monthfile.specs.declared.reading.Started.{Started}
 
 no-lines : (c : ℕ) (u : List ℕ) (room : ℕ) → room ≡ 0 → readLines room c u .got ≡ []

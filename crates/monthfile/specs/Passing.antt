@@ -1,8 +1,8 @@
 -- What passing over a part of the text does to reading's verdict (format's `scan`): the machine comes to the state after that part, or the
 -- refusal is found in it. Assumes nothing.
-use Prim.Native.Nat.{ℕ, zero, suc, _+_, _≤_, _<_, min}
+use Prim.Native.Nat.{ℕ, zero, suc, _+_, _≤_, _<_}
 use mathlib.Core.Path.{_≡_}
-use mathlib.Core.List.{List, [], _∷_}
+use mathlib.Core.List.{List, _∷_}
 use lib.ListN.{length, drop}
 use Rattle.format.specs.Bytes.{comma, lf}
 use Rattle.format.specs.Blocks.{upTo}

@@ -1,12 +1,12 @@
 -- What reading one file answers and writes (format's `reading`), and the parts in which it is done. Assumes nothing.
-use Prim.Native.Nat.{ℕ, _+_, _≤_, min}
+use Prim.Native.Nat.{ℕ, _+_, _≤_}
 use mathlib.Core.Path.{_≡_}
 use mathlib.Core.List.{List, [], _++_, map}
 use lib.ListN.{length, drop, getD}
 use lib.IntN.{ℤ, pos}
 use Rattle.format.specs.Blocks.{slices, blocks}
 use Rattle.format.specs.Grammar.{File}
-use Rattle.format.specs.Values.{Got, readLine, readLines, readBlocks, fileOf}
+use Rattle.format.specs.Values.{readLine, readLines, readBlocks, fileOf}
 use Rattle.format.specs.Reading.{scanAt, reading, Answer, accepted, refused}
 use Rattle.format.specs.declared.Scanned.{Scanned}
 use Rattle.format.specs.declared.Scanned.the-variants.{Whole, Faulty, Full}

@@ -4,7 +4,6 @@ use mathlib.Core.Path.{_≡_, refl}
 use mathlib.Core.Bool.{cond}
 use mathlib.Core.List.{List, [], _∷_, map}
 use lib.Dec.{ltb}
-use lib.ListN.{length}
 use Rattle.format.specs.Blocks.{one, any, upTo, free, slices}
 use Rattle.format.specs.Grammar.{line, more}
 use Rattle.format.specs.Machine.{Item, byte, lines, format, State, at}

@@ -8,20 +8,14 @@ use Rattle.monthfile.specs.Table.{table}
 use borrow.Author.Needs.{needs}
 use Rattle.monthfile.proofs.check.file_check.Statement.{statement}
 use Rattle.monthfile.proofs.check.file_check.Tie as tie
-use Rattle.monthfile.proofs.check.file_check.Reads as reads
-use Rattle.monthfile.proofs.check.file_check.Lts as lts
-use Rattle.monthfile.proofs.check.files.Reads as files-reads
 
--- src/check.rt:37:9
 returns : tie.Need-returns
 returns c = sym (check-over _ (c .if1 .taken))
 
--- src/check.rt:39:5
 files-requires : tie.Need-files-requires
 unfolding table format line more
 files-requires c κs = (refl, omega arith)
 
--- src/check.rt:33:1
 returns-2 : tie.Need-returns-2
 returns-2 c = search needs
 

@@ -8,9 +8,6 @@ use Rattle.monthfile.specs.Passing.{Within}
 use Rattle.monthfile.proofs.Checking.{fits, Same, same-start, goes-on, forward, all-read, comes-back, no-room}
 use Rattle.monthfile.proofs.check.files.Statement.{statement}
 use Rattle.monthfile.proofs.check.files.Tie as tie
-use Rattle.monthfile.proofs.check.files.Reads as reads
-use Rattle.monthfile.proofs.check.files.Lts as lts
-use Rattle.monthfile.proofs.scanner.scan_by.Reads as scan-by-reads
 
 abbrev Inv-loop : tie.InvT-loop
 Inv-loop codes text most at₀ at = (most ≡ length text) × Same text at
@@ -18,51 +15,42 @@ Inv-loop codes text most at₀ at = (most ≡ length text) × Same text at
 abbrev μ-loop : tie.MeasureT-loop
 μ-loop codes text most at₀ at = length text - at
 
--- src/check.rt:18:5
 loop-holds : tie.Need-loop-holds Inv-loop μ-loop
 loop-holds c = (refl, same-start _)
 
--- src/check.rt:19:15
 scan-by-requires : tie.Need-scan-by-requires Inv-loop μ-loop
 scan-by-requires c κs = search needs
 
--- src/check.rt:20:28
 enum-known-n : tie.Need-enum-known-n Inv-loop μ-loop
 enum-known-n c = search needs
 
--- src/check.rt:22:21
 returns : tie.Need-returns Inv-loop μ-loop
 returns c =
     let at = c .before .before .before .before .before in
     let e = sym (c .before .before .before .before .scan-by .ensures .0) ∙ c .before .before .n .given .1 in
     all-read _ _ (at .loop .inv .1) _ (at .loop .inv .0) (omega arith) _ e (c .if1 .taken)
 
--- src/check.rt:18:5
 loop-less : tie.Need-loop-less Inv-loop μ-loop
 loop-less c =
     let at = c .before .before .before .before .before in
     let e = sym (c .before .before .before .before .scan-by .ensures .0) ∙ c .before .before .n .given .1 in
     let f = forward _ _ (at .loop .inv .1) _ (at .loop .inv .0) _ e in omega arith
 
--- src/check.rt:18:5
 loop-again : tie.Need-loop-again Inv-loop μ-loop
 loop-again c =
     let at = c .before .before .before .before .before in
     let e = sym (c .before .before .before .before .scan-by .ensures .0) ∙ c .before .before .n .given .1 in
     (at .loop .inv .0, goes-on _ _ (at .loop .inv .1) _ (at .loop .inv .0) _ e (c .if1 .left))
 
--- src/check.rt:26:29
 enum-known-p : tie.Need-enum-known-p Inv-loop μ-loop
 enum-known-p c = search needs
 
--- src/check.rt:26:42
 cast-result : tie.Need-cast-result Inv-loop μ-loop
 cast-result c =
     let at = c .before .before .before .before in
     let w = subst (Within _ 0) (c .before .p .given .1) (c .before .before .before .scan-by .ensures .1) in
     fits _ (omega arith)
 
--- src/check.rt:26:35
 returns-2 : tie.Need-returns-2 Inv-loop μ-loop
 returns-2 c =
     let at = c .before .before .before .before in
@@ -70,18 +58,15 @@ returns-2 c =
     let w = subst (Within _ 0) (c .before .p .given .1) (c .before .before .before .scan-by .ensures .1) in
     comes-back _ _ (at .loop .inv .1) _ (at .loop .inv .0) (omega arith) _ e w
 
--- src/check.rt:27:27
 enum-known-p-2 : tie.Need-enum-known-p-2 Inv-loop μ-loop
 enum-known-p-2 c = search needs
 
--- src/check.rt:27:40
 cast-result-2 : tie.Need-cast-result-2 Inv-loop μ-loop
 cast-result-2 c =
     let at = c .before .before .before .before in
     let w = subst (Within _ 0) (c .before .p2 .given .1) (c .before .before .before .scan-by .ensures .1) in
     fits _ (omega arith)
 
--- src/check.rt:27:33
 returns-3 : tie.Need-returns-3 Inv-loop μ-loop
 returns-3 c =
     let at = c .before .before .before .before in

@@ -1,5 +1,5 @@
 -- Each value before the last has its comma, and the last its LF. Assumes nothing.
-use Prim.Native.Nat.{ℕ, _+_, _-_, _≤_, _<_}
+use Prim.Native.Nat.{ℕ, _-_, _≤_}
 use mathlib.Core.Path.{_≡_, refl, ap, sym, _∙_}
 use native.Mathlib.Omega.{arith}
 use borrow.Author.Needs.{needs}
@@ -12,9 +12,6 @@ use Rattle.monthfile.proofs.Joining.{Comes, told, into, after, stays-fa
 use Rattle.monthfile.proofs.LineSteps.{comma-next, value-next}
 use Rattle.monthfile.proofs.line.line.Statement.{statement}
 use Rattle.monthfile.proofs.line.line.Tie as tie
-use Rattle.monthfile.proofs.line.line.Reads as reads
-use Rattle.monthfile.proofs.line.line.Lts as lts
-use Rattle.monthfile.proofs.line.entry.Reads as entry-reads
 
 abbrev Inv-loop : tie.InvT-loop
 Inv-loop text i commas here₀ left₀ here left = (i ≤ here) × ((here ≤ length text) × Comes text i (value fresh commas) here (value fresh left))
@@ -22,49 +19,39 @@ Inv-loop text i commas here₀ left₀ here left = (i ≤ here) × ((here ≤ le
 abbrev μ-loop : tie.MeasureT-loop
 μ-loop text i commas here₀ left₀ here left = left
 
--- src/line.rt:39:5
 loop-holds : tie.Need-loop-holds Inv-loop μ-loop
 loop-holds c = (omega arith, (omega arith, λ f. refl))
 
--- src/line.rt:40:15
 entry-requires : tie.Need-entry-requires Inv-loop μ-loop
 entry-requires c κs = omega arith
 
--- src/line.rt:41:28
 enum-known-n : tie.Need-enum-known-n Inv-loop μ-loop
 enum-known-n c = search needs
 
--- src/line.rt:42:29
 enum-known-p : tie.Need-enum-known-p Inv-loop μ-loop
 enum-known-p c = search needs
 
--- src/line.rt:42:35
 returns : tie.Need-returns Inv-loop μ-loop
 returns c =
     let at = c .before .before .before .before .before in
     let e = c .before .before .before .entry .ensures (at .loop .left) (comma-next (at .loop .left) (omega arith)) in
     after _ _ _ _ _ _ (omega arith) (at .loop .inv .1 .1) (stays-faulty _ _ _ _ _ _ (told _ _ _ _ (c .before .p .given .1) e))
 
--- src/line.rt:43:27
 enum-known-p-2 : tie.Need-enum-known-p-2 Inv-loop μ-loop
 enum-known-p-2 c = search needs
 
--- src/line.rt:43:33
 returns-2 : tie.Need-returns-2 Inv-loop μ-loop
 returns-2 c =
     let at = c .before .before .before .before .before in
     let e = c .before .before .before .entry .ensures (at .loop .left) (comma-next (at .loop .left) (omega arith)) in
     after _ _ _ _ _ _ (omega arith) (at .loop .inv .1 .1) (stays-full _ _ _ _ _ _ (told _ _ _ _ (c .before .p2 .given .1) e))
 
--- src/line.rt:45:9
 sub-left : tie.Need-sub-left Inv-loop μ-loop
 sub-left c = omega arith
 
--- src/line.rt:39:5
 loop-less : tie.Need-loop-less Inv-loop μ-loop
 loop-less c = omega arith
 
--- src/line.rt:39:5
 loop-again : tie.Need-loop-again Inv-loop μ-loop
 loop-again c =
     let at = c .before .before .before .before .before in
@@ -72,11 +59,9 @@ loop-again c =
     let w = e .within in
     (omega arith, (omega arith, λ f. at .loop .inv .1 .1 f ∙ e .goes f ∙ value-next _ _ (at .loop .left) (omega arith) f))
 
--- src/line.rt:47:5
 entry-requires-2 : tie.Need-entry-requires-2 Inv-loop μ-loop
 entry-requires-2 c κs = omega arith
 
--- src/line.rt:33:1
 returns-3 : tie.Need-returns-3 Inv-loop μ-loop
 returns-3 c =
     let at = c .before .before in

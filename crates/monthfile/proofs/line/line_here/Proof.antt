@@ -1,28 +1,21 @@
 -- Assumes nothing.
-use mathlib.Core.Path.{_≡_, ap, sym, _∙_}
+use mathlib.Core.Path.{ap, sym, _∙_}
 use lib.ListN.{drop-of-length-le}
 use Rattle.format.specs.Values.{lineHere}
 use Rattle.monthfile.proofs.ValueSteps.{here}
 use borrow.Author.Needs.{needs}
 use Rattle.monthfile.proofs.line.line_here.Statement.{statement}
 use Rattle.monthfile.proofs.line.line_here.Tie as tie
-use Rattle.monthfile.proofs.line.line_here.Reads as reads
-use Rattle.monthfile.proofs.line.line_here.Lts as lts
-use Rattle.monthfile.proofs.line.starts_line.Reads as starts-line-reads
 
--- src/line.rt:61:28
 shared-slice-read-starts-line : tie.Need-shared-slice-read-starts-line
 shared-slice-read-starts-line c = search needs
 
--- src/line.rt:61:9
 starts-line-requires : tie.Need-starts-line-requires
 starts-line-requires c κs = search needs
 
--- src/line.rt:61:9
 returns : tie.Need-returns
 returns c = c .starts-line .ensures ∙ sym (ap lineHere (here _ _ (c .before .before .if1 .taken)))
 
--- src/line.rt:56:1
 returns-2 : tie.Need-returns-2
 returns-2 c = sym (ap lineHere (drop-of-length-le _ (c .if1 .left)))
 

@@ -1,6 +1,6 @@
 -- Each line takes one from the room; where none begins the block is over. Assumes nothing.
-use Prim.Native.Nat.{ℕ, _+_, _-_, _≤_, _<_}
-use mathlib.Core.Path.{_≡_, refl, ap, sym, _∙_}
+use Prim.Native.Nat.{ℕ, _-_, _≤_}
+use mathlib.Core.Path.{refl, sym, _∙_}
 use mathlib.Core.List.{List, _∷_}
 use native.Mathlib.Omega.{arith}
 use borrow.Author.Needs.{needs}
@@ -12,10 +12,6 @@ use Rattle.monthfile.proofs.Joining.{Comes, told, before, after, passed
 use Rattle.monthfile.proofs.LineSteps.{line-on, line-full, line-none}
 use Rattle.monthfile.proofs.line.lines.Statement.{statement}
 use Rattle.monthfile.proofs.line.lines.Tie as tie
-use Rattle.monthfile.proofs.line.lines.Reads as reads
-use Rattle.monthfile.proofs.line.lines.Lts as lts
-use Rattle.monthfile.proofs.line.line.Reads as line-reads
-use Rattle.monthfile.proofs.line.line_here.Reads as line-here-reads
 
 abbrev one-less : ℕ → ℕ → List Item → List Item
 one-less left commas f = lines (upTo (left - 1)) commas ∷ f
@@ -26,34 +22,27 @@ Inv-loop text i commas room here₀ left₀ here left = (i ≤ here) × ((here �
 abbrev μ-loop : tie.MeasureT-loop
 μ-loop text i commas room here₀ left₀ here left = left
 
--- src/line.rt:73:5
 loop-holds : tie.Need-loop-holds Inv-loop μ-loop
 loop-holds c = (omega arith, (omega arith, λ f. refl))
 
--- src/line.rt:73:11
 line-here-requires : tie.Need-line-here-requires Inv-loop μ-loop
 line-here-requires c κs = omega arith
 
--- src/line.rt:75:13
 returns : tie.Need-returns Inv-loop μ-loop
 returns c =
     let at = c .before .before .before in
     after _ _ _ _ _ _ (omega arith) (at .loop .inv .1 .1)
     (full _ _ _ _ (omega arith) (λ f. line-full _ _ _ f (sym (c .before .before .line-here .ensures) ∙ c .before .if1 .taken) _ (c .if2 .taken)))
 
--- src/line.rt:77:15
 line-requires : tie.Need-line-requires Inv-loop μ-loop
 line-requires c κs = omega arith
 
--- src/line.rt:78:28
 enum-known-n : tie.Need-enum-known-n Inv-loop μ-loop
 enum-known-n c = search needs
 
--- src/line.rt:79:29
 enum-known-p : tie.Need-enum-known-p Inv-loop μ-loop
 enum-known-p c = search needs
 
--- src/line.rt:79:35
 returns-2 : tie.Need-returns-2 Inv-loop μ-loop
 returns-2 c =
     let at = c .before .before .before .before .before .before .before in
@@ -62,11 +51,9 @@ returns-2 c =
     after _ _ _ _ _ _ (omega arith) (λ f. at .loop .inv .1 .1 f ∙ line-on _ _ _ f l _ (omega arith))
     (stays-faulty _ _ _ _ _ _ e)
 
--- src/line.rt:80:27
 enum-known-p-2 : tie.Need-enum-known-p-2 Inv-loop μ-loop
 enum-known-p-2 c = search needs
 
--- src/line.rt:80:33
 returns-3 : tie.Need-returns-3 Inv-loop μ-loop
 returns-3 c =
     let at = c .before .before .before .before .before .before .before in
@@ -75,15 +62,12 @@ returns-3 c =
     after _ _ _ _ _ _ (omega arith) (λ f. at .loop .inv .1 .1 f ∙ line-on _ _ _ f l _ (omega arith))
     (stays-full _ _ _ _ _ _ e)
 
--- src/line.rt:82:9
 sub-left : tie.Need-sub-left Inv-loop μ-loop
 sub-left c = omega arith
 
--- src/line.rt:73:5
 loop-less : tie.Need-loop-less Inv-loop μ-loop
 loop-less c = omega arith
 
--- src/line.rt:73:5
 loop-again : tie.Need-loop-again Inv-loop μ-loop
 loop-again c =
     let at = c .before .before .before .before .before .before .before in
@@ -92,7 +76,6 @@ loop-again c =
     let w = e .within in
     (omega arith, (omega arith, λ f. at .loop .inv .1 .1 f ∙ line-on _ _ _ f l _ (omega arith) ∙ e .goes f))
 
--- src/line.rt:67:1
 returns-4 : tie.Need-returns-4 Inv-loop μ-loop
 returns-4 c =
     let at = c .before .before in

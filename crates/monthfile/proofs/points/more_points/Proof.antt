@@ -3,19 +3,13 @@ use borrow.Author.Tests.{lt-ltb, le-ltb}
 use borrow.Author.Needs.{needs}
 use Rattle.monthfile.proofs.points.more_points.Statement.{statement}
 use Rattle.monthfile.proofs.points.more_points.Tie as tie
-use Rattle.monthfile.proofs.points.more_points.Reads as reads
-use Rattle.monthfile.proofs.points.more_points.Lts as lts
-use Rattle.monthfile.proofs.line.line_here.Reads as line-here-reads
 
--- src/points.rt:46:9
 line-here-requires : tie.Need-line-here-requires
 line-here-requires c κs = search needs
 
--- src/points.rt:46:9
 returns : tie.Need-returns
 returns c = let l = lt-ltb _ _ (c .before .if1 .taken) in rw l (c .line-here .ensures)
 
--- src/points.rt:41:1
 returns-2 : tie.Need-returns-2
 returns-2 c = let l = le-ltb _ _ (c .if1 .left) in rw l
 

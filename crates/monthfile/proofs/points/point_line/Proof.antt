@@ -9,55 +9,40 @@ use mir.Facts.{toZ-ofZ}
 use borrow.Author.Needs.{needs}
 use Rattle.monthfile.proofs.points.point_line.Statement.{statement}
 use Rattle.monthfile.proofs.points.point_line.Tie as tie
-use Rattle.monthfile.proofs.points.point_line.Reads as reads
-use Rattle.monthfile.proofs.points.point_line.Lts as lts
-use Rattle.monthfile.proofs.values.line_at.Reads as line-at-reads
 
--- src/points.rt:25:34
 slice-aggregate-line-at : tie.Need-slice-aggregate-line-at
 slice-aggregate-line-at c = search needs
 
--- src/points.rt:25:9
 line-at-requires : tie.Need-line-at-requires
 line-at-requires c κs = search needs
 
--- src/points.rt:27:15
 array-copy-out-t10 : tie.Need-array-copy-out-t10
 array-copy-out-t10 c = search needs
 
--- src/points.rt:28:13
 array-copy-out-t13 : tie.Need-array-copy-out-t13
 array-copy-out-t13 c = search needs
 
--- src/points.rt:29:13
 array-copy-out-t16 : tie.Need-array-copy-out-t16
 array-copy-out-t16 c = search needs
 
--- src/points.rt:30:13
 array-copy-out-t19 : tie.Need-array-copy-out-t19
 array-copy-out-t19 c = search needs
 
--- src/points.rt:31:13
 array-copy-out-t22 : tie.Need-array-copy-out-t22
 array-copy-out-t22 c = search needs
 
--- src/points.rt:32:13
 array-copy-out-t25 : tie.Need-array-copy-out-t25
 array-copy-out-t25 c = search needs
 
--- src/points.rt:33:13
 array-copy-out-t28 : tie.Need-array-copy-out-t28
 array-copy-out-t28 c = search needs
 
--- src/points.rt:34:13
 array-copy-out-t31 : tie.Need-array-copy-out-t31
 array-copy-out-t31 c = search needs
 
--- src/points.rt:35:13
 array-copy-out-t34 : tie.Need-array-copy-out-t34
 array-copy-out-t34 c = search needs
 
--- src/points.rt:20:1
 returns : tie.Need-returns
 returns c =
     let row = c .before .before .before .before .before .before .before .before .before .before .line-at .last .1 .1 .0 in

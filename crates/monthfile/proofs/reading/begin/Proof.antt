@@ -5,65 +5,48 @@ use Rattle.monthfile.proofs.FileSteps.{begins-inside, begun, unread}
 use borrow.Author.Needs.{needs}
 use Rattle.monthfile.proofs.reading.begin.Statement.{statement}
 use Rattle.monthfile.proofs.reading.begin.Tie as tie
-use Rattle.monthfile.proofs.reading.begin.Reads as reads
-use Rattle.monthfile.proofs.reading.begin.Lts as lts
-use Rattle.monthfile.proofs.reading.nothing.Reads as nothing-reads
-use Rattle.monthfile.proofs.reading.up_to_points.Reads as up-to-points-reads
-use Rattle.monthfile.proofs.scanner.scan.Reads as scan-reads
 
--- src/reading.rt:104:9
 scan-requires : tie.Need-scan-requires
 scan-requires c κs = search needs
 
--- src/reading.rt:106:24
 enum-known-verdict : tie.Need-enum-known-verdict
 enum-known-verdict c = search needs
 
--- src/reading.rt:106:30
 up-to-points-requires : tie.Need-up-to-points-requires
 up-to-points-requires c κs =
     let n = c .before .before .before .verdict .given in
     let b = begins-inside _ _ _ _ _ (n .0 .0) (sym (c .before .before .before .before .before .scan .ensures .0) ∙ n .1) in
     omega arith
 
--- src/reading.rt:107:25
 enum-known-verdict-2 : tie.Need-enum-known-verdict-2
 enum-known-verdict-2 c = search needs
 
--- src/reading.rt:107:31
 nothing-requires : tie.Need-nothing-requires
 nothing-requires c κs = search needs
 
--- src/reading.rt:108:23
 enum-known-verdict-3 : tie.Need-enum-known-verdict-3
 enum-known-verdict-3 c = search needs
 
--- src/reading.rt:108:29
 nothing-requires-2 : tie.Need-nothing-requires-2
 nothing-requires-2 c κs = search needs
 
--- src/reading.rt:101:1
 same-length : tie.Need-same-length
 same-length c = search needs
 
--- src/reading.rt:101:1
 same-length-2 : tie.Need-same-length-2
 same-length-2 c = search needs
 
--- src/reading.rt:101:1
 returns : tie.Need-returns
 returns c =
     let x = c .before .before .up-to-points .ensures in
     begun _ _ _ _ _ _ _ _ _ _ (x .0) (c .before .before .before .before .before .before .verdict .given .1) (c .before .before .before .before .before .before .before .before .scan .ensures .0) (x .1)
 
--- src/reading.rt:101:1
 returns-2 : tie.Need-returns-2
 returns-2 c =
     let x = c .nothing .ensures in
     begun _ _ _ _ _ _ _ _ _ _ (x .0) (c .before .before .verdict2 .given .1) (c .before .before .before .before .scan .ensures .0)
     (unread _ _ _ _ (x .1 .0) (x .1 .1))
 
--- src/reading.rt:101:1
 returns-3 : tie.Need-returns-3
 returns-3 c =
     let x = c .nothing2 .ensures in

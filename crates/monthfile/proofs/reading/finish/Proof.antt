@@ -1,5 +1,5 @@
 -- Assumes nothing.
-use mathlib.Core.Path.{_≡_, ap, sym}
+use mathlib.Core.Path.{ap, sym}
 use mir.Syntax.{w64}
 use mir.Val.{SFits}
 use mir.Facts.{toZ-ofZ}
@@ -7,22 +7,16 @@ use Rattle.monthfile.specs.Reads.{answerBy}
 use borrow.Author.Needs.{needs}
 use Rattle.monthfile.proofs.reading.finish.Statement.{statement}
 use Rattle.monthfile.proofs.reading.finish.Tie as tie
-use Rattle.monthfile.proofs.reading.finish.Reads as reads
-use Rattle.monthfile.proofs.reading.finish.Lts as lts
 
--- src/reading.rt:118:24
 enum-known-verdict : tie.Need-enum-known-verdict
 enum-known-verdict c = search needs
 
--- src/reading.rt:126:25
 enum-known-verdict-2 : tie.Need-enum-known-verdict-2
 enum-known-verdict-2 c = search needs
 
--- src/reading.rt:127:23
 enum-known-verdict-3 : tie.Need-enum-known-verdict-3
 enum-known-verdict-3 c = search needs
 
--- src/reading.rt:113:1
 returns : tie.Need-returns
 returns c =
     let b = c .before .before .before .before .args .b in
@@ -30,11 +24,9 @@ returns c =
     let g : SFits w64 (b .ons) = search needs in
     rw (toZ-ofZ f, toZ-ofZ g) (sym (ap (answerBy b _) (c .before .before .verdict .given .1)))
 
--- src/reading.rt:113:1
 returns-2 : tie.Need-returns-2
 returns-2 c = sym (ap (answerBy (c .before .before .before .args .b) _) (c .before .verdict2 .given .1))
 
--- src/reading.rt:113:1
 returns-3 : tie.Need-returns-3
 returns-3 c = sym (ap (answerBy (c .before .before .before .args .b) _) (c .before .verdict3 .given .1))
 

@@ -1,5 +1,5 @@
 -- Assumes nothing.
-use mathlib.Core.Path.{_≡_, refl, sym, _∙_}
+use mathlib.Core.Path.{sym, _∙_}
 use native.Mathlib.Omega.{arith}
 use mir.Syntax.{w64}
 use mir.Val.{SFits}
@@ -8,33 +8,22 @@ use Rattle.monthfile.proofs.FileSteps.{month-read, no-month}
 use borrow.Author.Needs.{needs}
 use Rattle.monthfile.proofs.reading.month_at.Statement.{statement}
 use Rattle.monthfile.proofs.reading.month_at.Tie as tie
-use Rattle.monthfile.proofs.reading.month_at.Reads as reads
-use Rattle.monthfile.proofs.reading.month_at.Lts as lts
-use Rattle.monthfile.proofs.line.line_here.Reads as line-here-reads
-use Rattle.monthfile.proofs.values.on.Reads as on-reads
-use Rattle.monthfile.proofs.values.value_at.Reads as value-at-reads
 
--- src/reading.rt:40:8
 line-here-requires : tie.Need-line-here-requires
 line-here-requires c κs = search needs
 
--- src/reading.rt:41:13
 value-at-requires : tie.Need-value-at-requires
 value-at-requires c κs = search needs
 
--- src/reading.rt:42:32
 on-requires : tie.Need-on-requires
 on-requires c κs = search needs
 
--- src/reading.rt:42:13
 value-at-requires-2 : tie.Need-value-at-requires-2
 value-at-requires-2 c κs = search needs
 
--- src/reading.rt:46:19
 on-requires-2 : tie.Need-on-requires-2
 on-requires-2 c κs = search needs
 
--- src/reading.rt:43:9
 returns : tie.Need-returns
 returns c =
     let m = c .before .before .before .before .before .value-at in
@@ -45,7 +34,6 @@ returns c =
     (month-read _ _ _ _ _ _ _ _ (sym (c .before .before .before .before .before .before .before .line-here .ensures) ∙ c .before .before .before .before .before .before .if1 .taken) (m .ensures) (c .before .before .before .before .on .ensures)
     (o .ensures) (c .before .before .on2 .ensures))
 
--- src/reading.rt:36:1
 returns-2 : tie.Need-returns-2
 returns-2 c = no-month _ _ (omega arith) (sym (c .before .line-here .ensures) ∙ c .if1 .left)
 

@@ -7,50 +7,34 @@ use Rattle.monthfile.proofs.FileSteps.{ready}
 use borrow.Author.Needs.{needs}
 use Rattle.monthfile.proofs.reading.up_to_points.Statement.{statement}
 use Rattle.monthfile.proofs.reading.up_to_points.Tie as tie
-use Rattle.monthfile.proofs.reading.up_to_points.Reads as reads
-use Rattle.monthfile.proofs.reading.up_to_points.Lts as lts
-use Rattle.monthfile.proofs.reading.month_at.Reads as month-at-reads
-use Rattle.monthfile.proofs.records.agents_at.Reads as agents-at-reads
-use Rattle.monthfile.proofs.records.users_at.Reads as users-at-reads
-use Rattle.monthfile.proofs.values.on.Reads as on-reads
 
--- src/reading.rt:73:28
 on-requires : tie.Need-on-requires
 on-requires c κs = search needs
 
--- src/reading.rt:73:9
 month-at-requires : tie.Need-month-at-requires
 month-at-requires c κs = search needs
 
--- src/reading.rt:74:29
 on-requires-2 : tie.Need-on-requires-2
 on-requires-2 c κs = search needs
 
--- src/reading.rt:74:9
 agents-at-requires : tie.Need-agents-at-requires
 agents-at-requires c κs = search needs
 
--- src/reading.rt:75:28
 on-requires-3 : tie.Need-on-requires-3
 on-requires-3 c κs = search needs
 
--- src/reading.rt:75:9
 users-at-requires : tie.Need-users-at-requires
 users-at-requires c κs = search needs
 
--- src/reading.rt:82:13
 on-requires-4 : tie.Need-on-requires-4
 on-requires-4 c κs = search needs
 
--- src/reading.rt:69:1
 same-length : tie.Need-same-length
 same-length c = search needs
 
--- src/reading.rt:69:1
 same-length-2 : tie.Need-same-length-2
 same-length-2 c = search needs
 
--- src/reading.rt:69:1
 returns : tie.Need-returns
 returns c =
     let m = c .before .before .before .before .before .before .before .before .before .before .month-at in

@@ -5,28 +5,19 @@ use Rattle.monthfile.proofs.ItemSteps.{as-line, as-lines}
 use borrow.Author.Needs.{needs}
 use Rattle.monthfile.proofs.scanner.block.Statement.{statement}
 use Rattle.monthfile.proofs.scanner.block.Tie as tie
-use Rattle.monthfile.proofs.scanner.block.Reads as reads
-use Rattle.monthfile.proofs.scanner.block.Lts as lts
-use Rattle.monthfile.proofs.line.line.Reads as line-reads
-use Rattle.monthfile.proofs.line.lines.Reads as lines-reads
 
--- src/scanner.rt:144:43
 sub-line : tie.Need-sub-line
 sub-line c = search needs
 
--- src/scanner.rt:144:9
 line-requires : tie.Need-line-requires
 line-requires c κs = search needs
 
--- src/scanner.rt:144:9
 returns : tie.Need-returns
 returns c = after _ _ _ _ _ _ (omega arith) (λ f. as-line _ _ _ _ f (omega arith) (omega arith)) (c .line .ensures)
 
--- src/scanner.rt:146:5
 lines-requires : tie.Need-lines-requires
 lines-requires c κs = search needs
 
--- src/scanner.rt:139:1
 returns-2 : tie.Need-returns-2
 returns-2 c = after _ _ _ _ _ _ (omega arith) (λ f. as-lines _ _ _ _ f (omega arith)) (c .lines .ensures)
 

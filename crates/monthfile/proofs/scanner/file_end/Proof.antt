@@ -4,22 +4,16 @@ use Rattle.monthfile.proofs.ItemSteps.{over, over-m, over-not}
 use borrow.Author.Needs.{needs}
 use Rattle.monthfile.proofs.scanner.file_end.Statement.{statement}
 use Rattle.monthfile.proofs.scanner.file_end.Tie as tie
-use Rattle.monthfile.proofs.scanner.file_end.Reads as reads
-use Rattle.monthfile.proofs.scanner.file_end.Lts as lts
 
--- src/scanner.rt:79:9
 returns : tie.Need-returns
 returns c = (over _ _ (c .if1 .taken), (omega arith, omega arith))
 
--- src/scanner.rt:81:8
 shared-slice-read-if2 : tie.Need-shared-slice-read-if2
 shared-slice-read-if2 c = search needs
 
--- src/scanner.rt:82:9
 returns-2 : tie.Need-returns-2
 returns-2 c = (over-m _ _ (omega arith) (c .if2 .taken), (omega arith, omega arith))
 
--- src/scanner.rt:74:1
 returns-3 : tie.Need-returns-3
 returns-3 c = (over-not _ _ (omega arith) (c .if2 .left), omega arith)
 

@@ -1,5 +1,5 @@
 -- Each entry of the table leads to the next; after the last the file must be over. Assumes nothing.
-use Prim.Native.Nat.{ℕ, _+_, _-_, _≤_, _<_}
+use Prim.Native.Nat.{ℕ, _-_, _≤_}
 use mathlib.Core.Path.{_≡_, refl, ap, sym, _∙_}
 use mathlib.Core.List.{List}
 use native.Mathlib.Omega.{arith}
@@ -12,12 +12,6 @@ use Rattle.monthfile.proofs.Joining.{told, after, farther}
 use Rattle.monthfile.proofs.ItemSteps.{named, as-byte, left, entry-passed, after-last}
 use Rattle.monthfile.proofs.scanner.items.Statement.{statement}
 use Rattle.monthfile.proofs.scanner.items.Tie as tie
-use Rattle.monthfile.proofs.scanner.items.Reads as reads
-use Rattle.monthfile.proofs.scanner.items.Lts as lts
-use Rattle.monthfile.proofs.scanner.block.Reads as block-reads
-use Rattle.monthfile.proofs.scanner.file_end.Reads as file-end-reads
-use Rattle.monthfile.proofs.scanner.name_here.Reads as name-here-reads
-use Rattle.monthfile.proofs.scanner.room_at.Reads as room-at-reads
 
 abbrev Inv-loop : tie.InvT-loop
 Inv-loop codes text i agents users points here₀ j₀ here j =
@@ -26,42 +20,33 @@ Inv-loop codes text i agents users points here₀ j₀ here j =
 abbrev μ-loop : tie.MeasureT-loop
 μ-loop codes text i agents users points here₀ j₀ here j = 82 - j
 
--- src/scanner.rt:177:5
 loop-holds : tie.Need-loop-holds Inv-loop μ-loop
 loop-holds c = (omega arith, (omega arith, refl))
 
--- src/scanner.rt:178:20
 mul-code : tie.Need-mul-code Inv-loop μ-loop
 mul-code c = omega arith
 
--- src/scanner.rt:178:20
 element-copy-out-code : tie.Need-element-copy-out-code Inv-loop μ-loop
 element-copy-out-code c = omega arith
 
--- src/scanner.rt:179:13
 room-at-requires : tie.Need-room-at-requires Inv-loop μ-loop
 room-at-requires c κs = search needs
 
--- src/scanner.rt:180:9
 add-j : tie.Need-add-j Inv-loop μ-loop
 add-j c = omega arith
 
--- src/scanner.rt:182:16
 name-here-requires : tie.Need-name-here-requires Inv-loop μ-loop
 name-here-requires c κs = omega arith
 
--- src/scanner.rt:183:17
 add-here : tie.Need-add-here Inv-loop μ-loop
 add-here c =
     let n = told _ _ _ _ (ap (named (c .before .before .before .before .before .before .loop .here)) (c .if2 .taken)) (c .before .name-here .ensures) in
     let w = n .within in
     omega arith
 
--- src/scanner.rt:177:5
 loop-less : tie.Need-loop-less Inv-loop μ-loop
 loop-less c = omega arith
 
--- src/scanner.rt:177:5
 loop-again : tie.Need-loop-again Inv-loop μ-loop
 loop-again c =
     let loop = c .before .before .before .before .before .before in
@@ -73,7 +58,6 @@ loop-again c =
     (after _ _ _ _ _ _ (omega arith) (λ f. as-byte _ _ _ _ f (c .before .before .if1 .taken)) n) in
     (omega arith, (omega arith, loop .loop .inv .1 .1 ∙ e))
 
--- src/scanner.rt:185:17
 returns : tie.Need-returns Inv-loop μ-loop
 returns c =
     let loop = c .before .before .before .before .before .before in
@@ -85,19 +69,15 @@ returns c =
     (after _ _ _ _ _ _ (omega arith) (λ f. as-byte _ _ _ _ f (c .before .before .if1 .taken)) n) in
     (sym (loop .loop .inv .1 .1 ∙ e), w)
 
--- src/scanner.rt:188:19
 block-requires : tie.Need-block-requires Inv-loop μ-loop
 block-requires c κs = (c .if1 .left, omega arith)
 
--- src/scanner.rt:189:32
 enum-known-n : tie.Need-enum-known-n Inv-loop μ-loop
 enum-known-n c = search needs
 
--- src/scanner.rt:177:5
 loop-less-2 : tie.Need-loop-less-2 Inv-loop μ-loop
 loop-less-2 c = omega arith
 
--- src/scanner.rt:177:5
 loop-again-2 : tie.Need-loop-again-2 Inv-loop μ-loop
 loop-again-2 c =
     let loop = c .before .before .before .before .before .before .before .before in
@@ -108,11 +88,9 @@ loop-again-2 c =
     (c .before .before .before .before .before .room-at .ensures) x in
     (omega arith, (omega arith, loop .loop .inv .1 .1 ∙ e))
 
--- src/scanner.rt:190:33
 enum-known-p : tie.Need-enum-known-p Inv-loop μ-loop
 enum-known-p c = search needs
 
--- src/scanner.rt:190:39
 returns-2 : tie.Need-returns-2 Inv-loop μ-loop
 returns-2 c =
     let loop = c .before .before .before .before .before .before .before .before in
@@ -123,11 +101,9 @@ returns-2 c =
     (c .before .before .before .before .before .room-at .ensures) x in
     (sym (loop .loop .inv .1 .1 ∙ e), w)
 
--- src/scanner.rt:191:31
 enum-known-p-2 : tie.Need-enum-known-p-2 Inv-loop μ-loop
 enum-known-p-2 c = search needs
 
--- src/scanner.rt:191:37
 returns-3 : tie.Need-returns-3 Inv-loop μ-loop
 returns-3 c =
     let loop = c .before .before .before .before .before .before .before .before in
@@ -138,11 +114,9 @@ returns-3 c =
     (c .before .before .before .before .before .room-at .ensures) x in
     (sym (loop .loop .inv .1 .1 ∙ e), w)
 
--- src/scanner.rt:195:5
 file-end-requires : tie.Need-file-end-requires Inv-loop μ-loop
 file-end-requires c κs = omega arith
 
--- src/scanner.rt:164:1
 returns-4 : tie.Need-returns-4 Inv-loop μ-loop
 returns-4 c =
     let now = c .before .before in

@@ -2,18 +2,13 @@
 use borrow.Author.Tests.{lt-ltb, le-ltb}
 use Rattle.monthfile.proofs.scanner.room_at.Statement.{statement}
 use Rattle.monthfile.proofs.scanner.room_at.Tie as tie
-use Rattle.monthfile.proofs.scanner.room_at.Reads as reads
-use Rattle.monthfile.proofs.scanner.room_at.Lts as lts
 
--- src/scanner.rt:31:9
 returns : tie.Need-returns
 returns c = let l = lt-ltb _ 39 (c .if1 .taken) in rw l
 
--- src/scanner.rt:34:9
 returns-2 : tie.Need-returns-2
 returns-2 c = let l = le-ltb _ 39 (c .before .if1 .left) in let k = lt-ltb _ 54 (c .if2 .taken) in rw (l, k)
 
--- src/scanner.rt:27:1
 returns-3 : tie.Need-returns-3
 returns-3 c = let l = le-ltb _ 39 (c .before .if1 .left) in let k = le-ltb _ 54 (c .if2 .left) in rw (l, k)
 

@@ -6,16 +6,11 @@ use Rattle.monthfile.specs.Table.{table}
 use borrow.Author.Needs.{needs}
 use Rattle.monthfile.proofs.scanner.scan.Statement.{statement}
 use Rattle.monthfile.proofs.scanner.scan.Tie as tie
-use Rattle.monthfile.proofs.scanner.scan.Reads as reads
-use Rattle.monthfile.proofs.scanner.scan.Lts as lts
-use Rattle.monthfile.proofs.scanner.scan_by.Reads as scan-by-reads
 
--- src/scanner.rt:215:5
 scan-by-requires : tie.Need-scan-by-requires
 unfolding table format line more
 scan-by-requires c κs = refl
 
--- src/scanner.rt:212:1
 returns : tie.Need-returns
 returns c = search needs
 

@@ -6,20 +6,13 @@ use Rattle.monthfile.proofs.ItemSteps.{at-position}
 use borrow.Author.Needs.{needs}
 use Rattle.monthfile.proofs.scanner.scan_by.Statement.{statement}
 use Rattle.monthfile.proofs.scanner.scan_by.Tie as tie
-use Rattle.monthfile.proofs.scanner.scan_by.Reads as reads
-use Rattle.monthfile.proofs.scanner.scan_by.Lts as lts
-use Rattle.monthfile.proofs.scanner.items.Reads as items-reads
-use Rattle.monthfile.proofs.scanner.smaller.Reads as smaller-reads
 
--- src/scanner.rt:209:24
 smaller-requires : tie.Need-smaller-requires
 smaller-requires c κs = search needs
 
--- src/scanner.rt:209:5
 items-requires : tie.Need-items-requires
 items-requires c κs = search needs
 
--- src/scanner.rt:205:1
 returns : tie.Need-returns
 returns c = (
   c .items .ensures .0 ∙ at-position _ _ _ _ (c .before .smaller .ensures .0),

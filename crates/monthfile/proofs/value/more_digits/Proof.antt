@@ -1,19 +1,11 @@
 -- A digit goes on while there are fewer than 18; where they end the value is as after a lone 0. Assumes nothing.
-use Prim.Native.Nat.{ℕ, _+_, _-_, _≤_, _<_}
-use mathlib.Core.Path.{_≡_, refl, ap, sym, _∙_}
-use mathlib.Core.List.{List}
+use Prim.Native.Nat.{_-_, _≤_}
+use mathlib.Core.Path.{sym, _∙_}
 use native.Mathlib.Omega.{arith}
 use borrow.Author.Needs.{needs}
-use lib.ListN.{length}
-use Rattle.format.specs.Machine.{Item, nought, digits, value}
-use Rattle.monthfile.specs.Passing.{verdict, Passes}
 use Rattle.monthfile.proofs.ValueSteps.{Behind, behind-none, behind-more, behind-over, behind-all}
 use Rattle.monthfile.proofs.value.more_digits.Statement.{statement}
 use Rattle.monthfile.proofs.value.more_digits.Tie as tie
-use Rattle.monthfile.proofs.value.more_digits.Reads as reads
-use Rattle.monthfile.proofs.value.more_digits.Lts as lts
-use Rattle.monthfile.proofs.value.is_digit.Reads as is-digit-reads
-use Rattle.monthfile.proofs.value.last_digit.Reads as last-digit-reads
 
 abbrev Inv-loop : tie.InvT-loop
 Inv-loop text i end at₀ at =
@@ -22,31 +14,24 @@ Inv-loop text i end at₀ at =
 abbrev μ-loop : tie.MeasureT-loop
 μ-loop text i end at₀ at = end - at
 
--- src/value.rt:36:9
 last-digit-requires : tie.Need-last-digit-requires Inv-loop μ-loop
 last-digit-requires c κs = search needs
 
--- src/value.rt:38:5
 loop-holds : tie.Need-loop-holds Inv-loop μ-loop
 loop-holds c = (omega arith, (omega arith, behind-none _ _))
 
--- src/value.rt:39:21
 shared-slice-read-is-digit : tie.Need-shared-slice-read-is-digit Inv-loop μ-loop
 shared-slice-read-is-digit c = omega arith
 
--- src/value.rt:39:12
 is-digit-requires : tie.Need-is-digit-requires Inv-loop μ-loop
 is-digit-requires c κs = search needs
 
--- src/value.rt:40:13
 add-at : tie.Need-add-at Inv-loop μ-loop
 add-at c = omega arith
 
--- src/value.rt:38:5
 loop-less : tie.Need-loop-less Inv-loop μ-loop
 loop-less c = omega arith
 
--- src/value.rt:38:5
 loop-again : tie.Need-loop-again Inv-loop μ-loop
 loop-again c =
     let at = c .before .before .before .before in (
@@ -57,7 +42,6 @@ loop-again c =
       ),
     )
 
--- src/value.rt:42:13
 returns : tie.Need-returns Inv-loop μ-loop
 returns c k =
     let at = c .before .before .before .before in
@@ -66,7 +50,6 @@ returns c k =
       within = (omega arith, omega arith);
     }
 
--- src/value.rt:32:1
 returns-2 : tie.Need-returns-2 Inv-loop μ-loop
 returns-2 c k =
     let at = c .before in

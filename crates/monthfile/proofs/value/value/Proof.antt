@@ -1,6 +1,5 @@
 -- Assumes nothing.
-use Prim.Native.Nat.{ℕ, _+_, _-_, _≤_, _<_}
-use mathlib.Core.Path.{_≡_, refl, ap, sym, _∙_}
+use Prim.Native.Nat.{_-_}
 use native.Mathlib.Omega.{arith}
 use Rattle.format.specs.Machine.{fresh}
 use Rattle.monthfile.proofs.Joining.{faulty, passed, after}
@@ -8,47 +7,34 @@ use Rattle.monthfile.proofs.ValueSteps.{text-end, nought-on, minus-on, 
 use borrow.Author.Needs.{needs}
 use Rattle.monthfile.proofs.value.value.Statement.{statement}
 use Rattle.monthfile.proofs.value.value.Tie as tie
-use Rattle.monthfile.proofs.value.value.Reads as reads
-use Rattle.monthfile.proofs.value.value.Lts as lts
-use Rattle.monthfile.proofs.value.size.Reads as size-reads
 
--- src/value.rt:67:9
 returns : tie.Need-returns
 returns c k = faulty _ _ _ _ (omega arith) (λ f. text-end _ k f _ fresh (c .if1 .taken))
 
--- src/value.rt:69:8
 shared-slice-read-if2 : tie.Need-shared-slice-read-if2
 shared-slice-read-if2 c = search needs
 
--- src/value.rt:70:31
 add-t7 : tie.Need-add-t7
 add-t7 c = search needs
 
--- src/value.rt:70:9
 returns-2 : tie.Need-returns-2
 returns-2 c k = passed _ _ _ _ _ (omega arith) (omega arith) (λ f. nought-on _ k f _ (omega arith) (c .if2 .taken))
 
--- src/value.rt:72:8
 shared-slice-read-if3 : tie.Need-shared-slice-read-if3
 shared-slice-read-if3 c = search needs
 
--- src/value.rt:73:27
 add-size : tie.Need-add-size
 add-size c = search needs
 
--- src/value.rt:73:9
 size-requires : tie.Need-size-requires
 size-requires c κs = search needs
 
--- src/value.rt:73:9
 returns-3 : tie.Need-returns-3
 returns-3 c k = after _ _ _ _ _ _ (omega arith) (λ f. minus-on _ k f _ (omega arith) (c .before .if3 .taken)) (c .size .ensures k)
 
--- src/value.rt:75:5
 size-requires-2 : tie.Need-size-requires-2
 size-requires-2 c κs = search needs
 
--- src/value.rt:62:1
 returns-4 : tie.Need-returns-4
 returns-4 c k = after _ _ _ _ _ _ (omega arith) (λ f. plain-like _ k f _ (omega arith) (c .before .before .before .if2 .left) (c .before .if3 .left)) (c .size2 .ensures k)
 

@@ -1,6 +1,6 @@
 -- Assumes nothing.
-use Prim.Native.Nat.{ℕ, _+_, _-_, _*_, _^_, _≤_, _<_}
-use mathlib.Core.Path.{_≡_, refl, ap, sym, _∙_}
+use Prim.Native.Nat.{_-_, _^_, _≤_, _<_}
+use mathlib.Core.Path.{refl, sym, _∙_}
 use native.Mathlib.Omega.{arith}
 use native.Mathlib.Nat.{pow-zero}
 use borrow.Author.Needs.{needs}
@@ -9,10 +9,6 @@ use Rattle.format.specs.Bytes.{is-digit}
 use Rattle.monthfile.proofs.DigitSteps.{SoFar, more-below, below-all, all-read, text-over, no-digit, a-digit}
 use Rattle.monthfile.proofs.values.digits_at.Statement.{statement}
 use Rattle.monthfile.proofs.values.digits_at.Tie as tie
-use Rattle.monthfile.proofs.values.digits_at.Reads as reads
-use Rattle.monthfile.proofs.values.digits_at.Lts as lts
-use Rattle.monthfile.proofs.values.is_digit.Reads as is-digit-reads
-use Rattle.monthfile.proofs.values.wide.Reads as wide-reads
 
 abbrev Inv-loop : tie.InvT-loop
 Inv-loop text at number₀ i₀ k₀ number i k = (k ≤ 18) × ((number < 10 ^ k) × ((i ≤ length text) × SoFar text at number i k))
@@ -20,11 +16,9 @@ Inv-loop text at number₀ i₀ k₀ number i k = (k ≤ 18) × ((number < 10 ^ 
 abbrev μ-loop : tie.MeasureT-loop
 μ-loop text at number₀ i₀ k₀ number i k = 18 - k
 
--- src/values.rt:39:5
 loop-holds : tie.Need-loop-holds Inv-loop μ-loop
 loop-holds c = (omega arith, (omega (arith, pow-zero 10), (omega arith, record { is = refl })))
 
--- src/values.rt:41:13
 returns : tie.Need-returns Inv-loop μ-loop
 returns c =
     let l = c .before .before .loop in
@@ -33,30 +27,24 @@ returns c =
       small = below-all (l .k) (l .number) (l .inv .0) (l .inv .1 .0);
     }
 
--- src/values.rt:43:22
 shared-slice-read-wide : tie.Need-shared-slice-read-wide Inv-loop μ-loop
 shared-slice-read-wide c = omega arith
 
--- src/values.rt:43:13
 wide-requires : tie.Need-wide-requires Inv-loop μ-loop
 wide-requires c κs = search needs
 
--- src/values.rt:44:12
 is-digit-requires : tie.Need-is-digit-requires Inv-loop μ-loop
 is-digit-requires c κs = search needs
 
--- src/values.rt:45:22
 mul-number : tie.Need-mul-number Inv-loop μ-loop
 mul-number c =
     let l = c .before .before .before .before .before .before .loop in
     let b = below-all (l .k) (l .number) (l .inv .0) (l .inv .1 .0) in
     omega arith
 
--- src/values.rt:45:37
 sub-number : tie.Need-sub-number Inv-loop μ-loop
 sub-number c = is-digit _ .0 (sym (c .before .is-digit .ensures) ∙ c .if2 .taken) .low
 
--- src/values.rt:45:22
 add-number : tie.Need-add-number Inv-loop μ-loop
 add-number c =
     let l = c .before .before .before .before .before .before .loop in
@@ -64,19 +52,15 @@ add-number c =
     let b = below-all (l .k) (l .number) (l .inv .0) (l .inv .1 .0) in
     omega (arith, d .low, d .high)
 
--- src/values.rt:46:13
 add-i : tie.Need-add-i Inv-loop μ-loop
 add-i c = omega arith
 
--- src/values.rt:47:13
 add-k : tie.Need-add-k Inv-loop μ-loop
 add-k c = omega arith
 
--- src/values.rt:39:5
 loop-less : tie.Need-loop-less Inv-loop μ-loop
 loop-less c = omega arith
 
--- src/values.rt:39:5
 loop-again : tie.Need-loop-again Inv-loop μ-loop
 loop-again c =
     let l = c .before .before .before .before .before .before .loop in
@@ -92,7 +76,6 @@ loop-again c =
       ),
     )
 
--- src/values.rt:49:13
 returns-2 : tie.Need-returns-2 Inv-loop μ-loop
 returns-2 c =
     let l = c .before .before .before .before .before .before .loop in
@@ -101,7 +84,6 @@ returns-2 c =
       small = below-all (l .k) (l .number) (l .inv .0) (l .inv .1 .0);
     }
 
--- src/values.rt:32:1
 returns-3 : tie.Need-returns-3 Inv-loop μ-loop
 returns-3 c =
     let l = c .before .loop in

@@ -1,6 +1,6 @@
 -- Each value is stored in its turn. Assumes nothing.
 use Prim.Native.Nat.{_-_, _≤_}
-use mathlib.Core.Path.{_≡_, refl, ap, sym, _∙_}
+use mathlib.Core.Path.{_≡_, refl}
 use native.Mathlib.Omega.{arith}
 use lib.ListN.{length}
 use mir.Syntax.{w64}
@@ -10,10 +10,6 @@ use borrow.Author.Needs.{needs}
 use Rattle.monthfile.proofs.ReadSteps.{Row, row-none, row-more, row-all, row-length}
 use Rattle.monthfile.proofs.values.line_at.Statement.{statement}
 use Rattle.monthfile.proofs.values.line_at.Tie as tie
-use Rattle.monthfile.proofs.values.line_at.Reads as reads
-use Rattle.monthfile.proofs.values.line_at.Lts as lts
-use Rattle.monthfile.proofs.values.on.Reads as on-reads
-use Rattle.monthfile.proofs.values.value_at.Reads as value-at-reads
 
 abbrev Inv-loop : tie.InvT-loop
 Inv-loop text at row₀ i₀ k₀ row i k =
@@ -22,35 +18,27 @@ Inv-loop text at row₀ i₀ k₀ row i k =
 abbrev μ-loop : tie.MeasureT-loop
 μ-loop text at row₀ i₀ k₀ row i k = length row₀ - k
 
--- src/values.rt:91:5
 loop-holds : tie.Need-loop-holds Inv-loop μ-loop
 loop-holds c = (omega arith, (omega arith, (refl, row-none _ _ _)))
 
--- src/values.rt:92:13
 value-at-requires : tie.Need-value-at-requires Inv-loop μ-loop
 value-at-requires c κs = omega arith
 
--- src/values.rt:94:9
 mul-x : tie.Need-mul-x Inv-loop μ-loop
 mul-x c = omega arith
 
--- src/values.rt:94:9
 slice-set-from-x : tie.Need-slice-set-from-x Inv-loop μ-loop
 slice-set-from-x c = omega arith
 
--- src/values.rt:95:9
 on-requires : tie.Need-on-requires Inv-loop μ-loop
 on-requires c κs = c .before .value-at .ensures .within
 
--- src/values.rt:96:9
 add-k : tie.Need-add-k Inv-loop μ-loop
 add-k c = omega arith
 
--- src/values.rt:91:5
 loop-less : tie.Need-loop-less Inv-loop μ-loop
 loop-less c = omega arith
 
--- src/values.rt:91:5
 loop-again : tie.Need-loop-again Inv-loop μ-loop
 loop-again c =
     let l = c .before .before .before .before .loop in
@@ -58,11 +46,9 @@ loop-again c =
     let r = row-more _ _ _ _ _ _ (l .inv .1 .1 .1) (toZ w64 (ofZ w64 (c .before .before .value-at .result .value))) _ _ (omega arith) (rw (toZ-ofZ f) (c .before .before .value-at .ensures)) (c .on .ensures) in
     (omega arith, (c .on .ensures .within, (row-length _ _ _ _ _ _ r (omega arith), r)))
 
--- src/values.rt:85:1
 same-length : tie.Need-same-length Inv-loop μ-loop
 same-length c = c .before .loop .inv .1 .1 .0
 
--- src/values.rt:85:1
 returns : tie.Need-returns Inv-loop μ-loop
 returns c = row-all _ _ _ _ _ _ (c .before .loop .inv .1 .1 .1) (omega arith) (omega arith)
 

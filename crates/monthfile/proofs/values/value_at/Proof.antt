@@ -4,47 +4,34 @@ use Rattle.monthfile.proofs.DigitSteps.{minus-fits, no-value, after-min
 use borrow.Author.Needs.{needs}
 use Rattle.monthfile.proofs.values.value_at.Statement.{statement}
 use Rattle.monthfile.proofs.values.value_at.Tie as tie
-use Rattle.monthfile.proofs.values.value_at.Reads as reads
-use Rattle.monthfile.proofs.values.value_at.Lts as lts
-use Rattle.monthfile.proofs.values.digits_at.Reads as digits-at-reads
 
--- src/values.rt:60:9
 returns : tie.Need-returns
 returns c = no-value _ _ (omega arith) (c .if1 .taken)
 
--- src/values.rt:62:8
 shared-slice-read-if2 : tie.Need-shared-slice-read-if2
 shared-slice-read-if2 c = search needs
 
--- src/values.rt:63:33
 add-digits-at : tie.Need-add-digits-at
 add-digits-at c = search needs
 
--- src/values.rt:63:13
 digits-at-requires : tie.Need-digits-at-requires
 digits-at-requires c κs = search needs
 
--- src/values.rt:65:25
 cast-t10 : tie.Need-cast-t10
 cast-t10 c = search needs
 
--- src/values.rt:65:20
 sub-t11 : tie.Need-sub-t11
 sub-t11 c = minus-fits _ (c .before .digits-at .ensures .small)
 
--- src/values.rt:64:9
 returns-2 : tie.Need-returns-2
 returns-2 c = after-minus _ _ (omega arith) _ (c .before .before .if2 .taken) (c .before .digits-at .ensures)
 
--- src/values.rt:69:9
 digits-at-requires-2 : tie.Need-digits-at-requires-2
 digits-at-requires-2 c κs = search needs
 
--- src/values.rt:71:16
 cast-t12 : tie.Need-cast-t12
 cast-t12 c = search needs
 
--- src/values.rt:55:1
 returns-3 : tie.Need-returns-3
 returns-3 c = no-minus _ _ (omega arith) _ (c .before .before .if2 .left) (c .before .digits-at2 .ensures)
 
