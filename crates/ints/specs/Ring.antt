@@ -67,6 +67,3 @@ all4 Q f x y z w = all1 (λ (t : ℤ). Q x y z t) (λ a b. all3 (λ (t u v : ℤ
 
 pub all5 : (Q : ℤ → ℤ → ℤ → ℤ → ℤ → Type 0) → ((a b c d e f g h i j : ℕ) → Q (a ⊖ b) (c ⊖ d) (e ⊖ f) (g ⊖ h) (i ⊖ j)) → (x y z w t : ℤ) → Q x y z w t
 all5 Q f x y z w t = all1 (λ (m : ℤ). Q x y z w m) (λ a b. all4 (λ (m n o p : ℤ). Q m n o p (a ⊖ b)) (λ c d e g h i j k. f c d e g h i j k a b) x y z w) t
-
-pub all6 : (Q : ℤ → ℤ → ℤ → ℤ → ℤ → ℤ → Type 0) → ((a b c d e f g h i j k l : ℕ) → Q (a ⊖ b) (c ⊖ d) (e ⊖ f) (g ⊖ h) (i ⊖ j) (k ⊖ l)) → (x y z w t u : ℤ) → Q x y z w t u
-all6 Q f x y z w t u = all1 (λ (m : ℤ). Q x y z w t m) (λ a b. all5 (λ (m n o p q : ℤ). Q m n o p q (a ⊖ b)) (λ c d e g h i j k l r. f c d e g h i j k l r a b) x y z w t) u

@@ -71,9 +71,6 @@ sum-take-small K (x ∷ xs) (suc i) h k = omega (arith, h .small 0 (suc-le-suc z
 pub small-fits : (K : ℕ) (xs : List ℤ) (i : ℕ) → K < 2 ^ 63 → i < length xs → Small K xs → SFits w64 (getD xs i (pos 0))
 small-fits K xs i k h s = omega (za, s .small i h)
 
-pub small-add-fits : (K : ℕ) (xs : List ℤ) (i : ℕ) (w : ℤ) → K + abs w < 2 ^ 63 → i < length xs → Small K xs → SFits w64 (getD xs i (pos 0) +ℤ w)
-small-add-fits K xs i w k h s = omega (za, s .small i h, add# (getD xs i (pos 0)) w)
-
 pub turn-fits : (K : ℕ) (xs : List ℤ) (i : ℕ) → K * length xs < 2 ^ 63 → i < length xs → Small K xs → SFits w64 (sumℤ (take i xs) +ℤ getD xs i (pos 0))
 turn-fits K xs i k h s =
     omega (za, s .small i h, sum-take-small K xs i s (omega arith), mul-le-mul-left K h, add# (sumℤ (take i xs)) (getD xs i (pos 0)))
@@ -81,16 +78,6 @@ turn-fits K xs i k h s =
 -- none of the list is negative: so is no part's sum, and a longer part's is at least as large
 pub record NonNeg (xs : List ℤ) : Type 0 where
   pub at : (i : ℕ) → i < length xs → pos 0 ≤ℤ getD xs i (pos 0)
-
-pub nonneg-none : NonNeg []
-nonneg-none = record { at = λ i h. absurd (not-suc-le-zero h) }
-
-pub nonneg-more : {x : ℤ} {xs : List ℤ} → pos 0 ≤ℤ x → NonNeg xs → NonNeg (x ∷ xs)
-nonneg-more {x} {xs} h k = record { at = go }
-  where
-    go : (i : ℕ) → i < length (x ∷ xs) → pos 0 ≤ℤ getD (x ∷ xs) i (pos 0)
-    go zero l = h
-    go (suc i) l = k .at i (le-of-suc-le-suc l)
 
 pub nonneg-head : {x : ℤ} {xs : List ℤ} → NonNeg (x ∷ xs) → pos 0 ≤ℤ x
 nonneg-head h = h .at 0 (suc-le-suc zero-le)

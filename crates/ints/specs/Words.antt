@@ -10,7 +10,7 @@ use lib.Signed.{nonNeg, quotZ, remZ, _≤ℤ_, _<ℤ_}
 use native.Mathlib.Nat.{div-le-self, mod-le, div-add-mod', div-lt-iff-lt-mul, mul-le-mul-left}
 use mir.Syntax.{w64}
 use mir.Val.{SFits, Fits, toZ, ofZ}
-use mir.Facts.{toZ-ofZ, toZ-pos, sfits-lit}
+use mir.Facts.{toZ-ofZ, sfits-lit}
 use Rattle.ints.specs.Bridge.{up, dn, abs, abs-is, za, fits-in, neg#, add#, sub#, mul#, one#}
 use Rattle.ints.specs.Floor.{floor}
 use Rattle.ints.specs.Range.{eqZ, eqZ-true, eqZ-false, outside, outside-false}
@@ -31,9 +31,6 @@ back# {x} f = record { hi = ap up (toZ-ofZ f); lo = ap dn (toZ-ofZ f) }
 pub same-bits : {x y : ℤ} → SFits w64 x → SFits w64 y → ofZ w64 x ≡ ofZ w64 y → x ≡ y
 same-bits {x} {y} f g e = sym (toZ-ofZ f) ∙ ap (toZ w64) e ∙ toZ-ofZ g
 
-pub other-bits : {x y : ℤ} → (ofZ w64 x ≡ ofZ w64 y → ⊥) → x ≡ y → ⊥
-other-bits h e = h (ap (ofZ w64) e)
-
 -- so it is the test of the numbers
 pub eqb-bits : {x y : ℤ} → SFits w64 x → SFits w64 y → eqb (ofZ w64 x) (ofZ w64 y) ≡ eqZ x y
 eqb-bits {x} {y} f g = go (eqZ x y) refl
@@ -44,10 +41,6 @@ eqb-bits {x} {y} f g = go (eqZ x y) refl
 
 pub eqb-word : {x : ℤ} (n : ℕ) → T (ltb n (2 ^ 63)) → SFits w64 x → eqb (ofZ w64 x) n ≡ eqZ x (pos n)
 eqb-word n t f = eqb-bits f (sfits-lit t)
-
--- a literal's bits, and those of a number that was cast from `u64`
-pub toZ# : (n : ℕ) → n < 2 ^ 63 → Back (pos n) (toZ w64 n)
-toZ# n h = record { hi = ap up (toZ-pos w64 h); lo = ap dn (toZ-pos w64 h) }
 
 -- the quotient toward zero is no larger than the dividend; a divisor above zero has bits above zero
 pub quot-small : (x y : ℤ) → abs (quotZ x y) ≤ abs x
@@ -70,10 +63,6 @@ quot-half {x} w h f = go x (fits-in f)
 pub rem-small : (x y : ℤ) → abs (remZ x y) ≤ abs x
 rem-small (pos a) y = omega (arith, mod-le a (natAbs y))
 rem-small (negsuc a) y = omega (arith, mod-le (suc a) (natAbs y), neg# (pos (suc a % natAbs y)))
-
-pub divisor-bits : (y : ℤ) → pos 0 <ℤ y → 0 < ofZ w64 y
-divisor-bits (pos n) h = omega za
-divisor-bits (negsuc n) h = absurd (omega za)
 
 -- of a dividend that is not negative it is the floor
 pub quot-floor : (x : ℤ) (w : ℕ) → pos 0 ≤ℤ x → quotZ x (pos w) ≡ floor x (pos w)
