@@ -1,0 +1,73 @@
+-- What is found of a closing whose points have been scanned: paper 01's refusals, group by group in their order, and the amounts.
+use Prim.Native.Nat.{ℕ, _≤_}
+use mathlib.Core.Path.{_≡_}
+use mathlib.Core.Bool.{false}
+use mathlib.Core.List.{List, map}
+use lib.IntN.{ℤ}
+use lib.ListN.{length, take}
+use Rattle.rules.specs.declared.Answer.{Answer}
+use Rattle.rules.specs.declared.Ledger.{Ledger}
+use Rattle.rules.specs.declared.Point.{Point}
+use Rattle.rules.specs.Calendar.{impossibleMonth}
+use Rattle.rules.specs.Verdict.{Verdict, accepted, refused, when, _then_, eachLine}
+use Rattle.rules.specs.Lines.{Lines, agentOf, userOf, monthLines}
+use Rattle.rules.specs.Refusals.{State, Lengths, badCounts, shortSlices, badMonth, creditTest, pointTest, lineTests, sumTests, refusal}
+use Rattle.rules.specs.Calls.{stateOf, verdictOf}
+use Rattle.charges.specs.declared.scan.Sums.{Sums}
+use Rattle.charges.specs.Scan.{scanned}
+use Rattle.charges.specs.Month.{Billed}
+use Rattle.closing.specs.declared.judge.Judged.{Judged}
+use Rattle.closing.specs.declared.judge.Judged.the-variants.{Refused, Accepted}
+
+-- 1 to 4, of the counts of user, agent and point lines
+unfoldable pub beforeLines : State → Lengths → ℤ → ℕ → ℕ → ℕ → Verdict
+beforeLines s n month users agents points =
+    when (badCounts s users agents points) 1 0
+    then shortSlices s n
+    then when (badMonth (s .month) month) 3 0
+    then eachLine creditTest 1 (s .credits)
+
+-- 1 to 7
+unfoldable pub throughLines : State → Lengths → ℤ → ℤ → List (List ℤ) → List (List ℤ) → List Point → Verdict
+throughLines s n month ons agents users points =
+    beforeLines s n month (length users) (length agents) (length points) then lineTests (monthLines month ons agents users points)
+
+-- these points are as many as counted, and a scan of them, where they are few enough, has found this first refusal
+pub record ScannedTo (users : List (List ℤ)) (count : ℕ) (found : Answer) (points : List Point) : Type 0 where
+  pub counted : count ≡ length points
+  pub first : length points ≤ 1024 → verdictOf found ≡ eachLine (pointTest (map userOf users)) 1 points
+
+-- these points are as many as counted, and s is what a scan of the first 1,024 finds
+pub record Tells (users : List (List ℤ)) (count : ℕ) (s : Sums) (points : List Point) : Type 0 where
+  pub counted : count ≡ length points
+  pub sums : s ≡ scanned (map userOf users) (take 1024 points)
+
+-- ---- 8, 9 and 10: the lines have passed 1 to 7
+pub record Passed7 (month ons : ℤ) (held : List ℤ) (agents users : List (List ℤ)) (s : Sums) (points : List Point) : Type 0 where
+  pub few-users : length users ≤ 512
+  pub few-agents : length agents ≤ 256
+  pub few-points : length points ≤ 1024
+  pub possible-month : impossibleMonth month ≡ false
+  pub held-count : length held ≡ length users
+  pub held-passed : eachLine creditTest 1 held ≡ accepted
+  pub lines-passed : lineTests (monthLines month ons agents users points) ≡ accepted
+  pub sums : s ≡ scanned (map userOf users) points
+
+abbrev pub Billable : List ℤ → List (List ℤ) → List (List ℤ) → Sums → Type 0
+Billable held agents users s = (month : ℤ) × (ons : ℤ) × (points : List Point) × Passed7 month ons held agents users s points
+
+-- a refusal, or the amounts
+abbrev pub JudgesBy : Verdict → List (List ℤ) → List ℤ → Lines → Judged → Type 0
+JudgesBy v users held l (Refused number place) = v ≡ refused number place
+JudgesBy v users held l (Accepted bills) = (v ≡ accepted) × Billed users held l bills
+
+abbrev pub Weighs : List ℤ → List (List ℤ) → List (List ℤ) → Sums → Judged → Type 0
+Weighs held agents users s r =
+    (month ons : ℤ) (points : List Point)
+    → Passed7 month ons held agents users s points
+    → JudgesBy (sumTests held (monthLines month ons agents users points)) users held (monthLines month ons agents users points) r
+
+-- 1 to 10
+abbrev pub Judges : Ledger → List ℤ → Lengths → ℤ → ℤ → List (List ℤ) → List (List ℤ) → List Point → Judged → Type 0
+Judges g held n month ons agents users points r =
+    JudgesBy (refusal (stateOf g held) n (monthLines month ons agents users points)) users (take (g .users) held) (monthLines month ons agents users points) r

@@ -1,0 +1,47 @@
+// What an accepted month writes: the held credits and the table of cells.
+ghost use mathlib.Core.Path.{_≡_};
+ghost use mathlib.Core.List.{List};
+ghost use lib.IntN.{ℤ};
+ghost use lib.ListN.{length};
+ghost use Rattle.rules.specs.Lines.{Lines};
+ghost use Rattle.closing.specs.Written.{Writable, Written};
+use charges::month::Bills;
+
+// Copies every entry.
+fn copy(from: &[i64], to: &mut [i64])
+    requires { ⌜ length (now from) ≡ length (now to) ⌝ }
+    ensures { λ _. ⌜ now (to .exit) ≡ now (from .entry) ⌝ }
+{
+    let n = from.len();
+    let mut i = 0;
+    while i < n {
+        to[i] = from[i];
+        i += 1;
+    }
+}
+
+// Writes the new held credits and the table. `held` has one entry for each user, `cells` one for each payee and user; which broken
+// cells take the odd cents is free within paper 01, and so is what the work slice holds afterwards.
+pub fn write(
+    bills: Bills,
+    month: i64,
+    ons: i64,
+    agents: &[[i64; 7]],
+    held: &mut [i64],
+    cells: &mut [i64],
+    work: &mut [u64],
+)
+    requires { ⌜ ((l : Lines) × Writable bills month ons (now agents) (now held) (now cells) (now work) l) ⌝ }
+    ensures { λ _. ⌜ ((l : Lines) → Writable bills month ons (now (agents .entry)) (now (held .entry)) (now (cells .entry)) (now (work .entry)) l
+        → Written (now (held .entry)) l (now (work .entry)) (now (held .exit)) (now (cells .exit)) (now (work .exit))) ⌝ }
+{
+    let n = held.len();
+    let m = agents.len() + 1;
+    let total = bills.total;
+    let debits = bills.debits;
+    let credits = bills.credits;
+    let mut vc = [0i64; 257];
+    credits::payees::vcs(month, ons, total, agents, &mut vc[..m]);
+    cells::fill(&vc[..m], &debits[..n], cells, work);
+    copy(&credits[..n], held);
+}

@@ -1,0 +1,142 @@
+// The ledger (paper 01, "The ledger"): opening, and closing a month. What is proved of every list of closings stands in proofs/Demand.
+mod points;
+
+ghost use mathlib.Core.Path.{_≡_};
+ghost use mathlib.Core.List.{List};
+ghost use lib.IntN.{pos};
+ghost use lib.ListN.{length, replicate};
+ghost use Rattle.rules.specs.declared.Point.{Point};
+ghost use Rattle.rules.specs.Lines.{monthLines};
+ghost use Rattle.rules.specs.declared.Answer.the-variants.{Refused};
+ghost use Rattle.rules.specs.Calls.{emptyLedger, Opens, Closes};
+ghost use Rattle.closing.specs.Judged.{Tells};
+use charges::scan::Sums;
+use closing::judge::Judged;
+use rules::Answer;
+use rules::Ledger;
+use rules::Outcome;
+use rules::Point;
+
+// Sets every entry to 0.
+fn clear(held: &mut [i64])
+    ensures { λ _. ⌜ now (held .exit) ≡ replicate (length (now (held .entry))) (pos 0) ⌝ }
+{
+    let n = held.len();
+    let mut i = 0;
+    while i < n {
+        held[i] = 0;
+        i += 1;
+    }
+}
+
+// A refused opening: a ledger of counts 0 and month 0.
+fn unopened(number: u64, place: u64) -> Outcome
+    ensures { λ r. ⌜ r ≡ record { answer = Refused number place; ledger = emptyLedger } ⌝ }
+{
+    Outcome {
+        answer: Answer::Refused(number, place),
+        ledger: Ledger {
+            users: 0,
+            agents: 0,
+            month: 0,
+        },
+    }
+}
+
+// Opens a ledger for these counts: the first entry per user becomes 0, entries beyond stay. A refused opening changes nothing.
+pub fn open(users: u64, agents: u64, held: &mut [i64]) -> Outcome
+    ensures { λ r. ⌜ Opens users agents (now (held .entry)) r (now (held .exit)) ⌝ }
+{
+    if limits::counts::bad_opening_counts(users, agents) {
+        return unopened(1, 0);
+    }
+    let n = users as usize;
+    if held.len() < n {
+        return unopened(2, 1);
+    }
+    clear(&mut held[..n]);
+    Outcome {
+        answer: Answer::Accepted,
+        ledger: Ledger {
+            users,
+            agents,
+            month: 0,
+        },
+    }
+}
+
+// What is left once the points are scanned: s is what their scan has found, n their count.
+fn finish(
+    ledger: Ledger,
+    held: &mut [i64],
+    month: i64,
+    ons: i64,
+    agents: &[[i64; 7]],
+    users: &[[i64; 3]],
+    n: usize,
+    s: Sums,
+    cells: &mut [i64],
+    work: &mut [u64],
+) -> Outcome
+    ensures { λ r. ⌜ ((points : List Point) → Tells (now (users .entry)) n s points
+        → Closes ledger (now (held .entry)) (monthLines month ons (now (agents .entry)) (now (users .entry)) points) (now (cells .entry)) (now (work .entry)) r (now (held .exit)) (now (cells .exit)) (now (work .exit))) ⌝ }
+{
+    let found = closing::judge::judge(
+        ledger,
+        held,
+        month,
+        ons,
+        agents,
+        users,
+        n as u64,
+        s,
+        cells.len() as u64,
+        work.len() as u64,
+    );
+    match found {
+        Judged::Refused(number, place) => Outcome {
+            answer: Answer::Refused(number, place),
+            ledger,
+        },
+        Judged::Accepted(bills) => {
+            let u = users.len();
+            let c = (agents.len() + 1) * u;
+            closing::write::write(
+                bills,
+                month,
+                ons,
+                agents,
+                &mut held[..u],
+                &mut cells[..c],
+                work,
+            );
+            Outcome {
+                answer: Answer::Accepted,
+                ledger: Ledger {
+                    users: ledger.users,
+                    agents: ledger.agents,
+                    month,
+                },
+            }
+        }
+    }
+}
+
+// Closes a month: refusals 1 to 10 with nothing changed, or the new held credits, the table of cells and the ledger with this month.
+pub fn close(
+    ledger: Ledger,
+    held: &mut [i64],
+    month: i64,
+    ons: i64,
+    agents: &[[i64; 7]],
+    users: &[[i64; 3]],
+    points: &[Point],
+    cells: &mut [i64],
+    work: &mut [u64],
+) -> Outcome
+    ensures { λ r. ⌜ Closes ledger (now (held .entry)) (monthLines month ons (now (agents .entry)) (now (users .entry)) (now (points .entry))) (now (cells .entry)) (now (work .entry)) r (now (held .exit)) (now (cells .exit)) (now (work .exit)) ⌝ }
+{
+    let n = points.len();
+    let s = points::scan(points, users);
+    finish(ledger, held, month, ons, agents, users, n, s, cells, work)
+}
