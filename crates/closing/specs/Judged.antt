@@ -9,7 +9,7 @@ use Rattle.rules.specs.declared.Answer.{Answer}
 use Rattle.rules.specs.declared.Ledger.{Ledger}
 use Rattle.rules.specs.declared.Point.{Point}
 use Rattle.rules.specs.Calendar.{impossibleMonth}
-use Rattle.rules.specs.Verdict.{Verdict, accepted, refused, when, _then_, eachLine}
+use Rattle.rules.specs.Verdict.{Verdict, accepted, when, _then_, eachLine}
 use Rattle.rules.specs.Lines.{Lines, agentOf, userOf, monthLines}
 use Rattle.rules.specs.Refusals.{State, Lengths, badCounts, shortSlices, badMonth, creditTest, pointTest, lineTests, sumTests, refusal}
 use Rattle.rules.specs.Calls.{stateOf, verdictOf}
@@ -17,7 +17,6 @@ use Rattle.charges.specs.declared.scan.Sums.{Sums}
 use Rattle.charges.specs.Scan.{scanned}
 use Rattle.charges.specs.Month.{Billed}
 use Rattle.closing.specs.declared.judge.Judged.{Judged}
-use Rattle.closing.specs.declared.judge.Judged.the-variants.{Refused, Accepted}
 
 -- 1 to 4, of the counts of user, agent and point lines
 unfoldable pub beforeLines : State → Lengths → ℤ → ℕ → ℕ → ℕ → Verdict
@@ -37,11 +36,6 @@ pub record ScannedTo (users : List (List ℤ)) (count : ℕ) (found : Answer) (p
   pub counted : count ≡ length points
   pub first : length points ≤ 1024 → verdictOf found ≡ eachLine (pointTest (map userOf users)) 1 points
 
--- these points are as many as counted, and s is what a scan of the first 1,024 finds
-pub record Tells (users : List (List ℤ)) (count : ℕ) (s : Sums) (points : List Point) : Type 0 where
-  pub counted : count ≡ length points
-  pub sums : s ≡ scanned (map userOf users) (take 1024 points)
-
 -- ---- 8, 9 and 10: the lines have passed 1 to 7
 pub record Passed7 (month ons : ℤ) (held : List ℤ) (agents users : List (List ℤ)) (s : Sums) (points : List Point) : Type 0 where
   pub few-users : length users ≤ 512
@@ -56,10 +50,10 @@ pub record Passed7 (month ons : ℤ) (held : List ℤ) (agents users : List (Lis
 abbrev pub Billable : List ℤ → List (List ℤ) → List (List ℤ) → Sums → Type 0
 Billable held agents users s = (month : ℤ) × (ons : ℤ) × (points : List Point) × Passed7 month ons held agents users s points
 
--- a refusal, or the amounts
-abbrev pub JudgesBy : Verdict → List (List ℤ) → List ℤ → Lines → Judged → Type 0
-JudgesBy v users held l (Refused number place) = v ≡ refused number place
-JudgesBy v users held l (Accepted bills) = (v ≡ accepted) × Billed users held l bills
+-- the verdict; and the amounts, where it is accepted
+pub record JudgesBy (v : Verdict) (users : List (List ℤ)) (held : List ℤ) (l : Lines) (r : Judged) : Type 0 where
+  pub verdict : verdictOf (r .verdict) ≡ v
+  pub bills : v ≡ accepted → Billed users held l (r .bills)
 
 abbrev pub Weighs : List ℤ → List (List ℤ) → List (List ℤ) → Sums → Judged → Type 0
 Weighs held agents users s r =

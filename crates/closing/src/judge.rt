@@ -3,17 +3,33 @@ ghost use mathlib.Core.Path.{_≡_};
 ghost use mathlib.Core.List.{List};
 ghost use lib.ListN.{length};
 ghost use Rattle.rules.specs.declared.Point.{Point};
+ghost use Rattle.rules.specs.declared.Answer.the-variants.{Refused};
 ghost use Rattle.rules.specs.Calls.{stateOf, verdictOf};
-ghost use Rattle.closing.specs.Judged.{beforeLines, throughLines, ScannedTo, Tells, Billable, Weighs, Judges};
+ghost use Rattle.charges.specs.Scan.{ScanFinds};
+ghost use Rattle.closing.specs.Judged.{beforeLines, throughLines, ScannedTo, Billable, Weighs, Judges};
 use charges::month::Bills;
 use charges::scan::Sums;
 use rules::Answer;
 use rules::Ledger;
 
-// What is found of a closing: a refusal, or every user's debit and new held credit.
-pub enum Judged {
-    Refused(u64, u64),
-    Accepted(Bills),
+// What is found of a closing: its verdict and, of an accepted month, every user's debit and new held credit.
+pub struct Judged {
+    pub verdict: Answer,
+    pub bills: Bills,
+}
+
+// A refusal, with no amounts.
+fn refused(number: u64, place: u64) -> Judged
+    ensures { λ r. ⌜ r .verdict ≡ Refused number place ⌝ }
+{
+    Judged {
+        verdict: Answer::Refused(number, place),
+        bills: Bills {
+            total: 0,
+            debits: [0i64; 512],
+            credits: [0i64; 512],
+        },
+    }
 }
 
 // 1 to 4: counts, slices, month, held credits.
@@ -104,13 +120,16 @@ fn weighed(held: &[i64], agents: &[[i64; 7]], users: &[[i64; 3]], s: Sums) -> Ju
         ints::total(&uses[..n]),
     );
     match verdict {
-        Answer::Refused(number, place) => Judged::Refused(number, place),
+        Answer::Refused(number, place) => refused(number, place),
         Answer::Accepted => {
             let bills = charges::month::bill(users, s, pv, held);
             let last = charges::sums::debits_verdict(bills.total);
             match last {
-                Answer::Refused(number, place) => Judged::Refused(number, place),
-                Answer::Accepted => Judged::Accepted(bills),
+                Answer::Refused(number, place) => refused(number, place),
+                Answer::Accepted => Judged {
+                    verdict: Answer::Accepted,
+                    bills,
+                },
             }
         }
     }
@@ -130,7 +149,7 @@ pub fn judge(
     cells: u64,
     work: u64,
 ) -> Judged
-    ensures { λ r. ⌜ ((ps : List Point) → Tells (now (users .entry)) points s ps
+    ensures { λ r. ⌜ ((ps : List Point) → ScanFinds (now (users .entry)) points s ps
         → Judges ledger (now (held .entry)) (record { held = length (now (held .entry)); cells = cells; work = work }) month ons (now (agents .entry)) (now (users .entry)) ps r) ⌝ }
 {
     let verdict = s.verdict;
@@ -147,7 +166,7 @@ pub fn judge(
         work,
     );
     match first {
-        Answer::Refused(number, place) => Judged::Refused(number, place),
+        Answer::Refused(number, place) => refused(number, place),
         Answer::Accepted => {
             let n = users.len();
             weighed(&held[..n], agents, users, s)

@@ -9,9 +9,8 @@ ghost use Rattle.rules.specs.declared.Point.{Point};
 ghost use Rattle.rules.specs.Lines.{monthLines};
 ghost use Rattle.rules.specs.declared.Answer.the-variants.{Refused};
 ghost use Rattle.rules.specs.Calls.{emptyLedger, Opens, Closes};
-ghost use Rattle.closing.specs.Judged.{Tells};
+ghost use Rattle.charges.specs.Scan.{ScanFinds};
 use charges::scan::Sums;
-use closing::judge::Judged;
 use rules::Answer;
 use rules::Ledger;
 use rules::Outcome;
@@ -78,7 +77,7 @@ fn finish(
     cells: &mut [i64],
     work: &mut [u64],
 ) -> Outcome
-    ensures { λ r. ⌜ ((points : List Point) → Tells (now (users .entry)) n s points
+    ensures { λ r. ⌜ ((points : List Point) → ScanFinds (now (users .entry)) n s points
         → Closes ledger (now (held .entry)) (monthLines month ons (now (agents .entry)) (now (users .entry)) points) (now (cells .entry)) (now (work .entry)) r (now (held .exit)) (now (cells .exit)) (now (work .exit))) ⌝ }
 {
     let found = closing::judge::judge(
@@ -93,16 +92,17 @@ fn finish(
         cells.len() as u64,
         work.len() as u64,
     );
-    match found {
-        Judged::Refused(number, place) => Outcome {
+    let verdict = found.verdict;
+    match verdict {
+        Answer::Refused(number, place) => Outcome {
             answer: Answer::Refused(number, place),
             ledger,
         },
-        Judged::Accepted(bills) => {
+        Answer::Accepted => {
             let u = users.len();
             let c = (agents.len() + 1) * u;
             closing::write::write(
-                bills,
+                found.bills,
                 month,
                 ons,
                 agents,
