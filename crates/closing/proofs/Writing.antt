@@ -34,12 +34,6 @@ module _ {bills : Bills} {month ons : ℤ} {agents : List (List ℤ)} {held cell
   new-count : length (newCredits held l) ≡ length held
   new-count = length-newCredits held l (w .held-count) ∙ sym (w .held-count)
 
-  pub debits-reach : length held ≤ length (bills .debits)
-  debits-reach = rw (w .debits) (simp length-append (omega (arith, debit-count)))
-
-  pub credits-reach : length held ≤ length (bills .credits)
-  credits-reach = rw (w .credits) (simp length-append (omega (arith, new-count)))
-
   pub first-debits : take (length held) (bills .debits) ≡ VDs held l
   first-debits = rw (w .debits) (take-at (VDs held l) _ (length held) debit-count)
 

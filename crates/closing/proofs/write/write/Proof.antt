@@ -3,7 +3,7 @@ use Prim.Native.Nat.{_+_, _≤_}
 use native.Mathlib.Omega.{arith}
 use mathlib.Core.Path.{_≡_, sym, _∙_}
 use borrow.Author.Needs.{needs}
-use lib.ListN.{length}
+use lib.ListN.{length, length-take}
 use lib.Seq.{length-take-le}
 use mir.Syntax.{w64}
 use mir.Val.{SFits}
@@ -11,7 +11,7 @@ use mir.Facts.{toZ-ofZ}
 use Rattle.rules.specs.Lines.{Lines}
 use Rattle.rules.specs.Credits.{VCs}
 use Rattle.closing.specs.Written.{Writable}
-use Rattle.closing.proofs.Writing.{payable, credits-are, debits-reach, credits-reach, first-debits, first-credits, first-payees, payees-reach, asked, written}
+use Rattle.closing.proofs.Writing.{payable, credits-are, first-debits, first-credits, first-payees, payees-reach, asked, written}
 use Rattle.closing.proofs.write.write.Statement.{statement}
 use Rattle.closing.proofs.write.write.Tie as tie
 
@@ -20,6 +20,9 @@ payees-fit s = let w = s .pre .1 in omega (arith, w .few-agents)
 
 total-fits : (s : tie.Start) → SFits w64 (s .args .bills .total)
 total-fits s = search needs
+
+arrays : (s : tie.Start) → (length (s .args .bills .debits) ≡ 512) × (length (s .args .bills .credits) ≡ 512)
+arrays s = (search needs, search needs)
 
 abbrev MayWrite : tie.Start → Lines → Type 0
 MayWrite s l = Writable (s .args .bills) (s .args .month) (s .args .ons) (s .args .agents .now) (s .args .held .now) (s .args .cells .now) (s .args .work .now) l
@@ -54,10 +57,10 @@ slice-aggregate-fill : tie.Need-slice-aggregate-fill
 slice-aggregate-fill c = let w = start (c .before .before) .pre .1 in sym (length-take-le _ _ (payees-reach w (credits-written (c .before .before) w) _))
 
 array-share-prefix-debits : tie.Need-array-share-prefix-debits
-array-share-prefix-debits c = debits-reach (start (c .before .before) .pre .1)
+array-share-prefix-debits c = let s = start (c .before .before) in omega (arith, arrays s, s .pre .1 .few-users)
 
 slice-aggregate-fill-2 : tie.Need-slice-aggregate-fill-2
-slice-aggregate-fill-2 c = sym (length-take-le _ _ (debits-reach (start (c .before .before .before) .pre .1)))
+slice-aggregate-fill-2 c = let s = start (c .before .before .before) in simp length-take (omega (arith, arrays s, s .pre .1 .few-users))
 
 fill-requires : tie.Need-fill-requires
 fill-requires c κs =
@@ -67,13 +70,13 @@ fill-requires c κs =
     asked w (first-payees w e _ ∙ e) (first-debits w)
 
 array-share-prefix-credits : tie.Need-array-share-prefix-credits
-array-share-prefix-credits c = credits-reach (start (c .before .before .before .before .before .before .before .before .before) .pre .1)
+array-share-prefix-credits c = let s = start (c .before .before .before .before .before .before .before .before .before) in omega (arith, arrays s, s .pre .1 .few-users)
 
 slice-aggregate-copy : tie.Need-slice-aggregate-copy
-slice-aggregate-copy c = sym (length-take-le _ _ (credits-reach (start (c .before .before .before .before .before .before .before .before .before .before) .pre .1)))
+slice-aggregate-copy c = let s = start (c .before .before .before .before .before .before .before .before .before .before) in simp length-take (omega (arith, arrays s, s .pre .1 .few-users))
 
 copy-requires : tie.Need-copy-requires
-copy-requires c κs = length-take-le _ _ (credits-reach (start (c .before .before .before .before .before .before .before .before .before .before .before) .pre .1))
+copy-requires c κs = let s = start (c .before .before .before .before .before .before .before .before .before .before .before) in simp length-take (omega (arith, arrays s, s .pre .1 .few-users))
 
 same-length : tie.Need-same-length
 same-length c = search needs
