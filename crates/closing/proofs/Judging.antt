@@ -1,29 +1,31 @@
--- Refusals 1 to 7 as the code goes through them: each way out of it, and what is known of a month that passes them.
+-- Refusals 1 to 7 as the code goes through them: each way out, and what is known of a month that passes; then 8, 9 and 10 after them.
 use Prim.Native.Nat.{ℕ, _≤_}
 use native.Mathlib.Omega.{arith}
 use mathlib.Core.Path.{_≡_, refl, sym, ap, _∙_}
 use mathlib.Core.Bool.{true, false, not, _&&_, _||_}
 use mathlib.Core.List.{List, map}
 use borrow.Author.Tests.{ltb-false, eqb-true, not-false}
-use lib.Dec.{eqb, ltb}
+use lib.Dec.{ltb}
 use lib.IntN.{ℤ, pos}
 use lib.ListN.{length, take, length-map}
 use lib.Seq.{length-take-le, take-all}
 use Rattle.ints.specs.Range.{or-false, eqZ}
 use Rattle.rules.specs.declared.Answer.{Answer}
+use Rattle.rules.specs.declared.Answer.the-variants.{Refused}
 use Rattle.rules.specs.declared.Ledger.{Ledger}
 use Rattle.rules.specs.declared.Point.{Point}
 use Rattle.rules.specs.Calendar.{impossibleMonth}
 use Rattle.rules.specs.Verdict.{Verdict, accepted, refused, when, _then_, eachLine}
 use Rattle.rules.specs.Lines.{Lines, agentOf, userOf, badAmount, monthLines}
-use Rattle.rules.specs.Refusals.{State, Lengths, badUsers, badAgents, badCounts, shortSlices, badMonth, creditTest, agentTest, userTest, pointTest, lineTests, sumTests, refusal}
+use Rattle.rules.specs.Refusals.{State, Lengths, badUsers, badAgents, badCounts, shortSlices, badMonth, creditTest, agentTest, userTest, lineTests, sumTests, refusal}
 use Rattle.rules.specs.Calls.{stateOf, verdictOf}
-use Rattle.rules.proofs.Tests.{then-accepted, when-then}
+use Rattle.rules.proofs.Tests.{refused-not-accepted, then-accepted, when-then}
 use Rattle.limits.proofs.Laws.{few-counts, then-assoc, points-last}
 use Rattle.charges.specs.declared.scan.Sums.{Sums}
 use Rattle.charges.specs.Scan.{scanned, ScanFinds}
 use Rattle.charges.proofs.Scanned.{scan-law}
-use Rattle.closing.specs.Judged.{beforeLines, throughLines, ScannedTo, Passed7}
+use Rattle.closing.specs.declared.judge.Judged.{Judged}
+use Rattle.closing.specs.Judged.{beforeLines, throughLines, ScannedTo, Passed7, JudgesBy, Judges}
 
 -- ---- 1 to 4
 module _ (s : State) (n : Lengths) (month : ℤ) (users agents points : ℕ) where
@@ -145,35 +147,63 @@ module _ (g : Ledger) (held : List ℤ) (cells work : ℕ) (month ons : ℤ) (ag
         same-users = p .same-users;
         long-held = rw (p .same-users) (p .long-held);
         passed = record {
-          few-users = p .few-users;
-          few-agents = p .few-agents;
-          few-points = p .few-points;
-          possible-month = p .possible-month;
-          held-count = length-take-le (length users) held (rw (p .same-users) (p .long-held));
-          held-passed = rw (p .same-users) (p .credits-passed);
-          lines-passed = a .1;
+          tests = record {
+            few-users = p .few-users;
+            few-agents = p .few-agents;
+            few-points = p .few-points;
+            possible-month = p .possible-month;
+            held-count = length-take-le (length users) held (rw (p .same-users) (p .long-held));
+            held-passed = rw (p .same-users) (p .credits-passed);
+            lines-passed = a .1;
+          };
           sums = f .sums ∙ ap (scanned (map userOf users)) (take-all 1024 points (p .few-points));
         };
       }
 
 -- ---- 1 to 10
+-- the code groups the tests by function, `refusal` does not
 in-order : (a b c d e f : Verdict) → (((a then b then c then d) then e) then f) ≡ (a then b then c then d then e then f)
 in-order accepted accepted accepted d e f = then-assoc d e f
 in-order accepted accepted (refused k p) d e f = refl
 in-order accepted (refused k p) c d e f = refl
 in-order (refused k p) b c d e f = refl
 
-pub sums-last :
-    (s : State) (n : Lengths) (month ons : ℤ) (agents users : List (List ℤ)) (points : List Point)
-    → (throughLines s n month ons agents users points then sumTests (s .credits) (monthLines month ons agents users points))
-    ≡ refusal s n (monthLines month ons agents users points)
-unfolding throughLines beforeLines refusal
-sums-last s n month ons agents users points =
-    rw (length-map users userOf, length-map agents agentOf)
-    (in-order
-    (when (badCounts s (length users) (length agents) (length points)) 1 0)
-    (shortSlices s n)
-    (when (badMonth (s .month) month) 3 0)
-    (eachLine creditTest 1 (s .credits))
-    (lineTests (monthLines month ons agents users points))
-    (sumTests (s .credits) (monthLines month ons agents users points)))
+-- a refusal has no amounts
+pub refuses :
+    {users : List (List ℤ)} {held : List ℤ} {l : Lines} {r : Judged} (v : Verdict) {k p : ℕ}
+    → r .verdict ≡ Refused k p
+    → refused k p ≡ v
+    → JudgesBy v users held l r
+refuses v e told = record { verdict = ap verdictOf e ∙ told; bills = λ ok. absurd (refused-not-accepted (told ∙ ok)) }
+
+module _ (s : State) (n : Lengths) (month ons : ℤ) (agents users : List (List ℤ)) (points : List Point) where
+  -- 8, 9 and 10 come after the lines
+  pub sums-last :
+      (v : Verdict)
+      → v ≡ throughLines s n month ons agents users points
+      → (v then sumTests (s .credits) (monthLines month ons agents users points)) ≡ refusal s n (monthLines month ons agents users points)
+  unfolding throughLines beforeLines refusal
+  sums-last v told =
+      let l = monthLines month ons agents users points in
+      rw (told, length-map users userOf, length-map agents agentOf)
+      (in-order
+      (when (badCounts s (length users) (length agents) (length points)) 1 0)
+      (shortSlices s n)
+      (when (badMonth (s .month) month) 3 0)
+      (eachLine creditTest 1 (s .credits))
+      (lineTests l)
+      (sumTests (s .credits) l))
+
+-- what is found with one held credit for each user line is what is found with one for each user of the ledger
+pub judges :
+    {g : Ledger} {month ons : ℤ} {held : List ℤ} {agents users : List (List ℤ)} {s : Sums} {points : List Point} {r : Judged}
+    → Judgeable g month ons held agents users s points
+    → (n : Lengths)
+    → accepted ≡ throughLines (stateOf g held) n month ons agents users points
+    → JudgesBy (sumTests (take (length users) held) (monthLines month ons agents users points)) users (take (length users) held) (monthLines month ons agents users points) r
+    → Judges g held n month ons agents users points r
+judges {g} {month} {ons} {held} {agents} {users} {s} {points} {r} p n told j =
+    let l = monthLines month ons agents users points in
+    let k : JudgesBy (sumTests (take (g .users) held) l) users (take (g .users) held) l r = rw (sym (p .same-users)) j in
+    let e = sums-last (stateOf g held) n month ons agents users points accepted told in
+    record { verdict = k .verdict ∙ e; bills = λ ok. k .bills (e ∙ ok) }

@@ -1,11 +1,8 @@
 -- What comes before the lines, then the lines before the points, then what the scan has found.
-use mathlib.Core.Path.{_≡_, sym, ap, _∙_}
-use mathlib.Core.List.{List, map}
+use mathlib.Core.Path.{_≡_, ap}
 use borrow.Author.Needs.{needs}
-use lib.IntN.{ℤ}
 use lib.ListN.{length}
 use mir.Facts.{toZ-ofZ}
-use Rattle.rules.specs.Verdict.{Verdict, accepted, when, _then_, eachLine}
 use Rattle.rules.specs.Refusals.{State, Lengths}
 use Rattle.rules.specs.Calls.{stateOf, verdictOf}
 use Rattle.closing.specs.Judged.{beforeLines}
@@ -23,13 +20,13 @@ module _ (s : tie.Start) where
 before-told :
     (c : tie.After-before-lines)
     → let s = c .before in
-      verdictOf (c .before-lines .result) ≡ beforeLines (state s) (lengths s) (s .args .month) (length (s .args .users .now)) (length (s .args .agents .now)) (s .args .points)
+    verdictOf (c .before-lines .result) ≡ beforeLines (state s) (lengths s) (s .args .month) (length (s .args .users .now)) (length (s .args .agents .now)) (s .args .points)
 before-told c = simp (toZ-ofZ, c .before .fits .month) at (c .before-lines .ensures)
 
 lines-told :
     (c : tie.After-lines-before-points)
     → let a = c .before .before .before .before .args in
-      verdictOf (c .lines-before-points .result) ≡ firstLines (a .ons) (a .agents .now) (a .users .now)
+    verdictOf (c .lines-before-points .result) ≡ firstLines (a .ons) (a .agents .now) (a .users .now)
 lines-told c = simp (toZ-ofZ, c .before .before .before .before .fits .ons) at (c .lines-before-points .ensures)
 
 before-lines-requires : tie.Need-before-lines-requires
