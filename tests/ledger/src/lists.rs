@@ -3,7 +3,6 @@
 use crate::call::{Call, Outcome, State};
 use crate::{chains, limits, orders};
 use rateio_reference::json;
-use rateio_reference::months::Style;
 use rateio_reference::rng::Rng;
 use rateio_reference::vectors::{closing_call, opening_call};
 
@@ -38,7 +37,7 @@ impl List {
 }
 
 /// How many of the first lists the interpreter takes.
-pub const SHORT: usize = 3;
+pub const SHORT: usize = 4;
 
 /// Every list, in the parts that the program takes in one run, the short lists first; `vectors` is the folder of the vector files.
 pub fn parts(vectors: &str) -> Vec<Vec<List>> {
@@ -46,13 +45,13 @@ pub fn parts(vectors: &str) -> Vec<Vec<List>> {
     let rng = &mut rng;
     let first = vec![
         List::new("never opened", chains::never_opened()),
+        List::new("alone", orders::alone(rng)),
         List::new("short chains", chains::small(rng, 4)),
         List::new("short singles", chains::singles(rng, 20)),
         List::new("openings", limits::openings()),
         List::new("vectors", of_vectors(vectors)),
         List::new("faults", orders::faults(rng)),
-        List::new("pairs", orders::pairs(rng, Style::Ordinary)),
-        List::new("pairs, extreme", orders::pairs(rng, Style::Extreme)),
+        List::new("pairs", orders::pairs(rng)),
         List::new("slices", limits::slices()),
         List::new("months", limits::months()),
         List::new("held credits", limits::credits()),

@@ -83,24 +83,32 @@ fn five(rng: &mut Rng, style: Style) -> Call {
     }
 }
 
-/// Each break alone, every two, and each with all after it.
-pub fn pairs(rng: &mut Rng, style: Style) -> Vec<Call> {
-    let base = five(rng, style);
+/// The closing with some breaks; the answer is the first's.
+fn broken(base: &Call, chosen: &[&Break]) -> Call {
+    let mut call = base.clone();
+    // the later first: what both change is then as the earlier leaves it
+    chosen.iter().rev().for_each(|one| (one.apply)(&mut call));
+    let (number, place) = chosen[0].refusal;
+    due(&call, Refusal { number, place }, chosen[0].name);
+    call
+}
+
+/// Each break alone, and with all after it.
+pub fn alone(rng: &mut Rng) -> Vec<Call> {
+    let base = five(rng, Style::Ordinary);
+    let breaks: Vec<Break> = breaks();
+    let from = |k: usize| breaks[k..].iter().collect::<Vec<_>>();
+    (0..breaks.len()).flat_map(|k| [broken(&base, &from(k)[..1]), broken(&base, &from(k))]).collect()
+}
+
+/// Every two breaks, so also every two neighbours.
+pub fn pairs(rng: &mut Rng) -> Vec<Call> {
     let breaks = breaks();
     let mut calls = Vec::new();
-    let mut broken = |chosen: &[&Break]| {
-        let mut call = base.clone();
-        // the later first: what both change is then as the earlier leaves it
-        chosen.iter().rev().for_each(|one| (one.apply)(&mut call));
-        let (number, place) = chosen[0].refusal;
-        due(&call, Refusal { number, place }, chosen[0].name);
-        calls.push(call);
-    };
-    for (k, first) in breaks.iter().enumerate() {
-        broken(&[first]);
-        broken(&breaks[k..].iter().collect::<Vec<_>>());
-        for second in &breaks[k + 1..] {
-            broken(&[first, second]);
+    for style in [Style::Ordinary, Style::Extreme] {
+        let base = five(rng, style);
+        for (k, first) in breaks.iter().enumerate() {
+            calls.extend(breaks[k + 1..].iter().map(|second| broken(&base, &[first, second])));
         }
     }
     calls
