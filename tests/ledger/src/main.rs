@@ -1,6 +1,7 @@
 //! Lists of openings and closings for the program that makes the calls (calls.rt.txt), and the comparison of what it wrote with the
 //! reference calculation.
 
+mod bench;
 mod call;
 mod chains;
 mod check;
@@ -19,7 +20,11 @@ fn main() {
     match args.iter().map(String::as_str).collect::<Vec<_>>()[..] {
         [_, "write", vectors, summary, ref programs @ ..] => write(vectors, summary, programs),
         [_, "check", vectors, short, ref records @ ..] => check(vectors, short, records),
-        _ => panic!("write VECTORS SUMMARY PROGRAM.., or check VECTORS SHORT RECORDS.."),
+        [_, "bench-write", timed, once] => bench::write(timed, once),
+        [_, "bench", ref runs @ ..] => bench::compare(runs),
+        _ => panic!(
+            "write VECTORS SUMMARY PROGRAM.., check VECTORS SHORT RECORDS.., bench-write TIMED ONCE, bench TIMES.."
+        ),
     }
 }
 
