@@ -125,12 +125,13 @@ pub fn counts(rng: &mut Rng) -> Vec<Call> {
     for _ in 0..900 {
         let (users, agents, points) = (rng.below(4), rng.below(4), rng.below(3));
         let mut call = Call::close(plain(users, agents, points));
+        let any_month = rng.bits() as i64;
         let Ledger { users, agents, month } = &mut call.ledger;
         match rng.below(4) {
             0 => *users = rng.pick(&any),
             1 => *agents = rng.pick(&any),
             2 => (*users, *agents) = (rng.bits(), rng.bits()),
-            _ => *month = rng.pick(&[rng.clone().bits() as i64, 0, 202_406, 202_413, -1]),
+            _ => *month = rng.pick(&[any_month, any_month, 0, 202_406, 202_413, -1]),
         }
         call.lent_cells += rng.below(3);
         call.lent_work += rng.below(3);
@@ -161,6 +162,11 @@ pub fn most_lines() -> Vec<Call> {
             }
         }
     }
+    // the point past the limit plays no part, whatever it holds
+    let mut call = Call::close(plain(3, 2, 1025));
+    call.lines.points[1024].at = i64::MIN;
+    due(&call, Refusal::new(1, 0), "a bad point past the limit");
+    calls.push(call);
     for (users, agents, points) in
         [(1, 1, 1024), (1, 1, 1025), (512, 1, 1024), (1, 256, 1025), (512, 1, 1025), (3, 2, 1023)]
     {
@@ -300,6 +306,31 @@ pub fn values() -> Vec<Call> {
                 });
             }
         }
+    }
+    calls
+}
+
+/// Any value in any column of all lines, or of the points alone: the points are looked at before all else, and hold anything then.
+pub fn garbage(rng: &mut Rng) -> Vec<Call> {
+    let any = |rng: &mut Rng| match rng.below(20) {
+        0 => rng.bits() as i64,
+        1 => rng.pick(&VALUES),
+        _ => rng.between(0, 3),
+    };
+    let mut calls = Vec::new();
+    for k in 0..600 {
+        let (users, agents, points) = (1 + rng.below(5), 1 + rng.below(4), 1 + rng.below(8));
+        let mut lines = plain(users, agents, points);
+        lines.points = (0..points).map(|_| Point::from_columns([(); 9].map(|()| any(rng)))).collect();
+        if k % 3 == 0 {
+            lines.month = any(rng);
+            lines.ons = any(rng);
+            lines.agents = (0..agents).map(|_| Agent::from_columns([(); 7].map(|()| any(rng)))).collect();
+            lines.users = (0..users).map(|_| User::from_columns([(); 3].map(|()| any(rng)))).collect();
+        }
+        let mut call = Call::close(lines);
+        call.ledger.users += u64::from(k % 5 == 0);
+        calls.push(call);
     }
     calls
 }

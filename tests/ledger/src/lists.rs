@@ -58,6 +58,7 @@ pub fn parts(vectors: &str) -> Vec<Vec<List>> {
         List::new("past the limit", chains::past_the_limit()),
         List::new("counts", limits::counts(rng)),
         List::new("values", limits::values()),
+        List::new("garbage", limits::garbage(rng)),
         List::new("singles", chains::singles(rng, 2_000)),
         List::new("chains", chains::small(rng, 250)),
     ];
