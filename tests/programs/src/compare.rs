@@ -3,7 +3,7 @@
 use crate::child::{Desk, Program, Runner};
 use crate::{inputs, rows};
 use rateio_reference::consulta;
-use rateio_reference::program::{self, Event};
+use rateio_reference::program::{self, Event, PROGRAM_INPUT};
 use std::ops::Range;
 use std::path::Path;
 use std::sync::atomic::{AtomicBool, AtomicU64, AtomicUsize, Ordering};
@@ -24,6 +24,8 @@ pub struct Counts {
     pub inputs: u64,
     pub bytes: usize,
     pub in_pieces: u64,
+    /// Inputs of no bytes, of the most that are taken, of one more, and of more than that.
+    pub sizes: [u64; 4],
     pub files: usize,
     pub closed: usize,
     pub with_credit: usize,
@@ -37,6 +39,9 @@ impl Counts {
         self.inputs += 1;
         self.bytes += input.len();
         self.in_pieces += u64::from(pieces > 1);
+        let length = input.len();
+        let sizes = [length == 0, length == PROGRAM_INPUT, length == PROGRAM_INPUT + 1, length > PROGRAM_INPUT + 1];
+        self.sizes.iter_mut().zip(sizes).for_each(|(count, is_so)| *count += u64::from(is_so));
         self.files += events.len();
         for event in events {
             match event {
@@ -159,18 +164,27 @@ pub fn report(settle: &Program, consulta: &Program, count: u64, folder: &Path) -
     if !differences.is_empty() {
         return Err(format!("{} differences or more in {} inputs", differences.len(), counts.inputs));
     }
-    let Counts { inputs, bytes, in_pieces, files, closed, with_credit, cells, refused } = counts;
+    let Counts { inputs, bytes, in_pieces, sizes, files, closed, with_credit, cells, refused } = counts;
     println!(
-        "programs: {} inputs ({} bytes, {} of them in pieces) through each, {} files",
+        "programs: {} inputs through each ({} bytes, {} inputs in pieces), {} files",
         inputs, bytes, in_pieces, files
+    );
+    let [empty, most, one_more, longer] = sizes;
+    println!(
+        "programs: {} inputs are empty, {} of 32,768 bytes, {} of 32,769, {} longer",
+        empty, most, one_more, longer
     );
     println!("programs: {} months closed ({} with credits held before), {} cells", closed, with_credit, cells);
     let by_number: Vec<String> = (1..13).map(|number| format!("{}: {}", number, refused[number])).collect();
     println!("programs: refusals by number {}", by_number.join(", "));
-    // The programs' own slices are never short, and the months that an input can hold raise no credit past its limit.
+    // The programs' own slices are never short (2); and an input holds less than 400 months, each of which raises a
+    // credit by at most 17 × 10^11, so that none comes to 10^17 (4).
     let unseen: Vec<usize> = (1..13).filter(|&number| refused[number] == 0).collect();
     if unseen != [2, 4] {
         return Err(format!("refusals {:?} never came up, and 2 and 4 alone should not", unseen));
+    }
+    if sizes.contains(&0) {
+        return Err("one of these sizes never came up".to_string());
     }
     println!("programs: 0 differences, {:.1} s", start.elapsed().as_secs_f64());
     Ok(())
