@@ -36,7 +36,8 @@ impl Runner {
 
     /// What the program writes for this input, which comes in so many pieces with a pause between them.
     pub fn run(&mut self, program: &Program, input: &[u8], pieces: usize, desk: &Desk) -> Result<Vec<u8>, String> {
-        self.start(program, input, pieces, desk).map_err(|why| format!("{}: {}", program.join(" "), why))
+        let name = Path::new(&program[0]).file_name().map(|name| name.to_string_lossy().into_owned());
+        self.start(program, input, pieces, desk).map_err(|why| format!("{}: {}", name.unwrap_or_default(), why))
     }
 
     fn start(&mut self, program: &Program, input: &[u8], pieces: usize, desk: &Desk) -> Result<Vec<u8>, String> {
