@@ -14,19 +14,23 @@
 //! | `table` | what a table of cells is, one such table, all of them |
 //! | `ledger` | opening and closing |
 //! | `tally` | the tally of demand 3, and demand 3 over a list of closings |
-//! | `program` | what `settle` prints, and whether an output is right |
+//! | `program` | a run of the programs, what `settle` prints, and whether an output is right |
+//! | `consulta` | what `consulta` prints, and whether an output is right |
+//! | `output` | what both outputs have in common |
 //! | `sample` | the worked file and its output |
 //! | `json`, `vectors` | the vector files, and the comparison with them |
 //! | `rng`, `months`, `faults`, `texts` | seeded cases: months, what breaks them, files and damaged files |
 
 pub mod amounts;
 pub mod charges;
+pub mod consulta;
 pub mod credits;
 pub mod faults;
 pub mod json;
 pub mod ledger;
 pub mod lines;
 pub mod months;
+mod output;
 pub mod program;
 pub mod read;
 pub mod refusals;

@@ -1,6 +1,10 @@
 //! The program `settle` ("The month file", from its second paragraph): what it prints, and whether an output is right.
+//! What a run comes to, file by file, is the same for the program `consulta`.
 
+use crate::amounts::Amounts;
 use crate::ledger::{self, Ledger};
+use crate::lines::MonthLines;
+use crate::output::{output_lines, payee_names, refused_line};
 use crate::read::{self, Capacity};
 use crate::refusals::{work_needed, Refusal};
 use crate::table::{is_table, some_table};
@@ -16,7 +20,33 @@ pub const OUTPUT_NAMES: &str = "month,payee,user,cents\n";
 #[derive(Clone, Debug, PartialEq, Eq)]
 pub enum Event {
     Refused(Refusal),
-    Closed { month: i64, vc: Vec<i128>, vd: Vec<i128>, held: Vec<i64> },
+    Closed(Box<Closed>),
+}
+
+/// A closed month: its lines, the credits held before it, and all that was worked out.
+#[derive(Clone, Debug, PartialEq, Eq)]
+pub struct Closed {
+    pub lines: MonthLines,
+    pub held_before: Vec<i64>,
+    pub amounts: Amounts,
+}
+
+impl Closed {
+    pub fn month(&self) -> i64 {
+        self.lines.month
+    }
+
+    pub fn vc(&self) -> &[i128] {
+        &self.amounts.credits.vc
+    }
+
+    pub fn vd(&self) -> &[i128] {
+        &self.amounts.charges.vd
+    }
+
+    pub fn held(&self) -> &[i128] {
+        &self.amounts.charges.held
+    }
 }
 
 /// What a run has to say, in order.
@@ -47,16 +77,12 @@ pub fn events(input: &[u8]) -> Vec<Event> {
                 }
             },
         };
+        let held_before = held[..lines.users.len()].to_vec();
         let (closed, answer) = ledger::close(opened, &mut held, &lines, &mut cells, work_needed(16, 64));
         ledger = Some(closed);
         events.push(match answer {
             Err(refusal) => Event::Refused(refusal),
-            Ok(amounts) => Event::Closed {
-                month: lines.month,
-                vc: amounts.credits.vc,
-                vd: amounts.charges.vd,
-                held: held[..lines.users.len()].to_vec(),
-            },
+            Ok(amounts) => Event::Closed(Box::new(Closed { lines, held_before, amounts })),
         });
         if next == input.len() {
             return events;
@@ -76,95 +102,50 @@ pub fn print(events: &[Event], mut table: impl FnMut(&[i128], &[i128]) -> Vec<i6
     for event in events {
         match event {
             Event::Refused(refusal) => output.push_str(&refused_line(refusal)),
-            Event::Closed { month, vc, vd, held } => {
-                let cells = table(vc, vd);
-                for (start, cents) in cell_starts(*month, vc.len(), vd.len()).iter().zip(cells) {
+            Event::Closed(closed) => {
+                for (start, cents) in cell_starts(closed).iter().zip(table(closed.vc(), closed.vd())) {
                     output.push_str(&format!("{}{}\n", start, cents));
                 }
-                for line in held_lines(*month, held) {
-                    output.push_str(&line);
-                }
+                held_lines(closed).iter().for_each(|line| output.push_str(line));
             }
         }
     }
     output.into_bytes()
 }
 
-fn refused_line(refusal: &Refusal) -> String {
-    format!("refused,{},{}\n", refusal.number, refusal.place)
-}
-
 /// The lines of a month's cells, each up to its cents.
-fn cell_starts(month: i64, payees: usize, users: usize) -> Vec<String> {
-    let mut starts = Vec::with_capacity(payees * users);
-    for payee in 1..=payees {
-        let payee = if payee == payees { "ons".to_string() } else { payee.to_string() };
-        starts.extend((1..=users).map(|user| format!("{},{},{},", month, payee, user)));
+fn cell_starts(closed: &Closed) -> Vec<String> {
+    let mut starts = Vec::new();
+    for payee in payee_names(closed.vc().len()) {
+        starts.extend((1..=closed.vd().len()).map(|user| format!("{},{},{},", closed.month(), payee, user)));
     }
     starts
 }
 
-fn held_lines(month: i64, held: &[i64]) -> Vec<String> {
-    let numbered = held.iter().enumerate();
-    numbered.map(|(j, cents)| format!("{},held,{},{}\n", month, j + 1, cents)).collect()
+fn held_lines(closed: &Closed) -> Vec<String> {
+    let numbered = closed.held().iter().enumerate();
+    numbered.map(|(j, cents)| format!("{},held,{},{}\n", closed.month(), j + 1, cents)).collect()
 }
 
 /// Whether `output` is what the program may print for `input`: any table for each closed month, all else byte for byte.
 pub fn check_run(input: &[u8], output: &[u8]) -> Result<(), String> {
-    let mut lines = OutputLines { lines: output.split_inclusive(|&byte| byte == b'\n'), number: 0 };
+    check_events(&events(input), output)
+}
+
+/// The same for a run that has these events.
+pub fn check_events(events: &[Event], output: &[u8]) -> Result<(), String> {
+    let mut lines = output_lines(output);
     lines.same(OUTPUT_NAMES)?;
-    for event in events(input) {
+    for event in events {
         match event {
-            Event::Refused(refusal) => lines.same(&refused_line(&refusal))?,
-            Event::Closed { month, vc, vd, held } => {
-                let starts = cell_starts(month, vc.len(), vd.len());
+            Event::Refused(refusal) => lines.same(&refused_line(refusal))?,
+            Event::Closed(closed) => {
+                let starts = cell_starts(closed);
                 let cells: Vec<i64> = starts.iter().map(|start| lines.cents_after(start)).collect::<Result<_, _>>()?;
-                is_table(&vc, &vd, &cells).map_err(|why| format!("month {}: {}", month, why))?;
-                held_lines(month, &held).iter().try_for_each(|line| lines.same(line))?;
+                is_table(closed.vc(), closed.vd(), &cells).map_err(|why| format!("{}: {}", closed.month(), why))?;
+                held_lines(closed).iter().try_for_each(|line| lines.same(line))?;
             }
         }
     }
-    match lines.next() {
-        None => Ok(()),
-        Some(more) => Err(format!("line {}: {:?} where the output should end", lines.number, shown(more))),
-    }
-}
-
-/// The output's lines, LF included, and the number of the last one taken.
-struct OutputLines<L> {
-    lines: L,
-    number: usize,
-}
-
-impl<'a, L: Iterator<Item = &'a [u8]>> OutputLines<L> {
-    fn next(&mut self) -> Option<&'a [u8]> {
-        self.number += 1;
-        self.lines.next()
-    }
-
-    fn same(&mut self, wanted: &str) -> Result<(), String> {
-        match self.next() {
-            Some(line) if line == wanted.as_bytes() => Ok(()),
-            line => Err(self.wrong(line, wanted)),
-        }
-    }
-
-    /// The cents of a line that has to begin so, in the one way to write them.
-    fn cents_after(&mut self, start: &str) -> Result<i64, String> {
-        let line = self.next();
-        let cents = line
-            .and_then(|line| line.strip_prefix(start.as_bytes()))
-            .and_then(|rest| rest.strip_suffix(b"\n"))
-            .and_then(|cents| std::str::from_utf8(cents).ok())
-            .and_then(|cents| cents.parse::<i64>().ok().filter(|number| number.to_string() == cents));
-        cents.ok_or_else(|| self.wrong(line, &format!("{}(cents)\n", start)))
-    }
-
-    fn wrong(&self, line: Option<&[u8]>, wanted: &str) -> String {
-        format!("line {}: {:?} and not {:?}", self.number, line.map(shown), wanted)
-    }
-}
-
-fn shown(line: &[u8]) -> String {
-    String::from_utf8_lossy(line).into_owned()
+    lines.end()
 }

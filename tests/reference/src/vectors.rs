@@ -133,21 +133,30 @@ fn reading(vector: &Json) -> Result<(), String> {
 
 fn run(vector: &Json) -> Result<(), String> {
     let text = field(vector, "text")?.text().ok_or("text is no text")?;
-    let expected: Vec<Event> = each(field(vector, "events")?, event)?;
-    same("events", &events(text), &expected)?;
+    let expected: Vec<Told> = each(field(vector, "events")?, event)?;
+    let found: Vec<Told> = events(text).into_iter().map(told).collect();
+    same("events", &found, &expected)?;
     check_run(text, &settle(text))
 }
 
-fn event(event: &Json) -> Result<Event, String> {
-    if let Some(refused) = event.field("refused") {
-        return Ok(Event::Refused(refusal(refused)?.ok_or("an event refused by nothing")?));
+/// What a vector tells of a file: its refusal; or the month, VC, VD and the new held credits.
+type Told = Result<(i64, Vec<i128>, Vec<i128>, Vec<i128>), Refusal>;
+
+fn told(event: Event) -> Told {
+    match event {
+        Event::Refused(refusal) => Err(refusal),
+        Event::Closed(closed) => {
+            Ok((closed.month(), closed.vc().to_vec(), closed.vd().to_vec(), closed.held().to_vec()))
+        }
     }
-    Ok(Event::Closed {
-        month: whole(event, "month")?,
-        vc: numbers(field(event, "vc")?)?,
-        vd: numbers(field(event, "vd")?)?,
-        held: numbers(field(event, "held")?)?,
-    })
+}
+
+fn event(event: &Json) -> Result<Told, String> {
+    if let Some(refused) = event.field("refused") {
+        return Ok(Err(refusal(refused)?.ok_or("an event refused by nothing")?));
+    }
+    let list = |name: &str| field(event, name).and_then(numbers);
+    Ok(Ok((whole(event, "month")?, list("vc")?, list("vd")?, list("held")?)))
 }
 
 fn month_lines(record: &Json) -> Result<MonthLines, String> {

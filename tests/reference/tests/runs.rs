@@ -39,7 +39,7 @@ fn outputs_with_any_table_are_right() {
         assert_eq!(check_run(&input, &other), Ok(()));
         for event in &events {
             match event {
-                Event::Closed { .. } => seen[0] += 1,
+                Event::Closed(_) => seen[0] += 1,
                 Event::Refused(refusal) => seen[refusal.number as usize] += 1,
             }
         }
@@ -110,10 +110,10 @@ fn held_credits_go_from_month_to_month() {
     let credit = sample::INPUT.replace("1,2,0\n2,3,0", "1,2,-1000\n2,3,0");
     let charge = sample::INPUT.replace("202407", "202409");
     let events = events(format!("{}{}", credit, charge).as_bytes());
-    let debits_and_held: Vec<(Vec<i128>, Vec<i64>)> = events
+    let debits_and_held: Vec<(Vec<i128>, Vec<i128>)> = events
         .into_iter()
         .map(|event| match event {
-            Event::Closed { vd, held, .. } => (vd, held),
+            Event::Closed(closed) => (closed.vd().to_vec(), closed.held().to_vec()),
             Event::Refused(refusal) => panic!("{:?}", refusal),
         })
         .collect();
@@ -157,7 +157,7 @@ fn the_longest_input() {
     let input = texts::files(&months);
     assert_eq!(input.len(), PROGRAM_INPUT);
     assert_eq!(events(&input).len(), months.len());
-    assert!(events(&input).iter().all(|event| matches!(event, Event::Closed { .. })));
+    assert!(events(&input).iter().all(|event| matches!(event, Event::Closed(_))));
     assert_eq!(check_run(&input, &settle(&input)), Ok(()));
     // The size is tested before anything else is.
     for more in [&b"m"[..], b"x", b"month,ons\n"] {

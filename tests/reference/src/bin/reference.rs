@@ -1,9 +1,9 @@
 //! The reference calculation on a command line.
 //!
-//! `reference settle` prints what the program `settle` prints for standard input; `reference check` the file check's
-//! answer for it; `reference vectors DIR` compares with the vector files in a folder and prints the counts.
+//! `reference settle` and `reference consulta` print what these programs print for standard input; `reference check` the
+//! file check's answer for it; `reference vectors DIR` compares with the vector files in a folder and prints the counts.
 
-use rateio_reference::{program, read, vectors};
+use rateio_reference::{consulta, program, read, vectors};
 use std::io::{Read, Write};
 use std::process::ExitCode;
 
@@ -11,11 +11,11 @@ fn main() -> ExitCode {
     let arguments: Vec<String> = std::env::args().skip(1).collect();
     let arguments: Vec<&str> = arguments.iter().map(String::as_str).collect();
     let done = match arguments[..] {
-        ["settle"] => standard_input()
-            .and_then(|input| std::io::stdout().write_all(&program::settle(&input)).map_err(|why| why.to_string())),
+        ["settle"] => run(program::settle),
+        ["consulta"] => run(consulta::consulta),
         ["check"] => standard_input().map(|text| println!("{}", read::check_text(&text))),
         ["vectors", folder] => compare_all(folder),
-        _ => Err("usage: reference settle | check | vectors DIR".to_string()),
+        _ => Err("usage: reference settle | consulta | check | vectors DIR".to_string()),
     };
     match done {
         Ok(()) => ExitCode::SUCCESS,
@@ -24,6 +24,11 @@ fn main() -> ExitCode {
             ExitCode::FAILURE
         }
     }
+}
+
+fn run(program: fn(&[u8]) -> Vec<u8>) -> Result<(), String> {
+    let output = program(&standard_input()?);
+    std::io::stdout().write_all(&output).map_err(|why| why.to_string())
 }
 
 fn standard_input() -> Result<Vec<u8>, String> {

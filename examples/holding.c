@@ -1,0 +1,154 @@
+/*
+ * A holding's month: shares a charge over its concessions, to the cent.
+ *
+ *     holding FILE CENTS
+ *
+ * FILE holds month files on end, CENTS is the charge (either sign). The file is checked whole before a number is read from
+ * it, so that the reading here may be simple: after the check no line can surprise it. For each month the charge is shared over
+ * the agents' pb, and the parts total the charge exactly. Writes month,agent,cents; a fault goes to standard error.
+ */
+#include <errno.h>
+#include <inttypes.h>
+#include <stddef.h>
+#include <stdint.h>
+#include <stdio.h>
+#include <stdlib.h>
+#include <string.h>
+
+#include "rateio.h"
+
+/* The whole file, with a 0 after it; NULL, with errno, where it cannot be read. */
+static char *whole_file(const char *path, size_t *length)
+{
+    FILE *file = fopen(path, "rb");
+    char *text = NULL;
+    size_t room = 0, used = 0;
+
+    if (!file)
+        return NULL;
+    for (;;) {
+        if (used + 1 >= room) {
+            char *more = realloc(text, room = 2 * room + 4096);
+
+            if (!more)
+                break;
+            text = more;
+        }
+        size_t got = fread(text + used, 1, room - used - 1, file);
+
+        used += got;
+        if (got == 0 && !ferror(file)) {
+            fclose(file);
+            text[used] = 0;
+            *length = used;
+            return text;
+        }
+        if (got == 0)
+            break;
+    }
+    int why = errno;
+
+    free(text);
+    fclose(file);
+    errno = why;
+    return NULL;
+}
+
+/* Where the line after this one begins: every line of a checked text ends in LF. */
+static const char *next_line(const char *line)
+{
+    return strchr(line, '\n') + 1;
+}
+
+/* pb, the second value of an agent line. */
+static int64_t weight_of(const char *line)
+{
+    return strtoll(strchr(line, ',') + 1, NULL, 10);
+}
+
+/* A refusal in words. */
+static const char *refusal(int64_t answer)
+{
+    switch (answer) {
+    case RATEIO_SHARE_BAD_AMOUNT:
+        return "the charge lies beyond 10^17 cents";
+    case RATEIO_SHARE_BAD_TOTAL:
+        return "the concessions' pb do not total 1 to 10^17";
+    default:
+        return "a concession's pb is negative";
+    }
+}
+
+/* Shares the charge over the agent lines that begin here; 0 where a part is refused. */
+static int share_out(int64_t charge, long month, const char *lines)
+{
+    int64_t total = 0, through = 0;
+
+    /* A total that leaves its limits stays there: the share refuses it. */
+    for (const char *line = lines; *line != 'u'; line = next_line(line))
+        if (total >= 0 && total <= RATEIO_SHARE_LIMIT)
+            total += weight_of(line);
+    for (const char *line = lines; *line != 'u'; line = next_line(line)) {
+        int64_t before = through, part;
+
+        through += weight_of(line);
+        part = rateio_share(charge, before, through, total);
+        if (RATEIO_SHARE_REFUSED(part)) {
+            fprintf(stderr, "holding: month %ld: %s\n", month, refusal(part));
+            return 0;
+        }
+        printf("%ld,%.*s,%" PRId64 "\n", month, (int)strcspn(line, ","), line, part);
+    }
+    return 1;
+}
+
+/* Every month of a checked text. */
+static int each_month(int64_t charge, const char *text)
+{
+    int whole = 1;
+
+    puts("month,agent,cents");
+    while (*text) {
+        const char *month = next_line(text), *agents = next_line(next_line(month));
+
+        whole &= share_out(charge, strtol(month, NULL, 10), agents);
+        for (text = agents; *text && *text != 'm';)
+            text = next_line(text);
+    }
+    return whole;
+}
+
+int main(int argc, char **argv)
+{
+    if (argc != 3) {
+        fprintf(stderr, "usage: holding FILE CENTS\n");
+        return 2;
+    }
+    char *end;
+    errno = 0;
+    long long charge = strtoll(argv[2], &end, 10);
+    if (errno || end == argv[2] || *end) {
+        fprintf(stderr, "holding: %s is no amount in cents\n", argv[2]);
+        return 2;
+    }
+    size_t length;
+    char *text = whole_file(argv[1], &length);
+    if (!text) {
+        fprintf(stderr, "holding: %s: %s\n", argv[1], strerror(errno));
+        return 1;
+    }
+    int64_t place = rateio_check((const uint8_t *)text, length);
+    int whole = place == RATEIO_CHECK_FILES;
+    if (whole)
+        whole = each_month(charge, text);
+    else if (place == RATEIO_CHECK_TOO_LONG)
+        fprintf(stderr, "holding: %s is longer than 10^15 bytes\n", argv[1]);
+    else
+        fprintf(stderr, "holding: %s goes wrong at byte %" PRId64 "\n", argv[1], place);
+    free(text);
+    if (fflush(stdout) || ferror(stdout)) {
+        fprintf(stderr, "holding: the table could not be written\n");
+        return 1;
+    }
+    return !whole;
+}
