@@ -1,5 +1,6 @@
 -- What closing promises: `Closes` of the rules, as it stands. `finish` and `close` both cite it from here, so that a closing that
--- promises something else (must-fail/) says so in one place. proofs/Pins holds `close` to `Closes` itself.
+-- promises something else (must-fail/) says so in one place.
+-- proofs/Pins holds `close` to `Closes` itself.
 use Prim.Native.Nat.{ℕ}
 use mathlib.Core.List.{List}
 use lib.IntN.{ℤ}
