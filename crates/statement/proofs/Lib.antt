@@ -1,0 +1,2 @@
+-- What follows from the definitions of specs/: `Entries` is what stands at each row.
+pub mod Entries
