@@ -1,2 +1,8 @@
--- What follows from the definitions of specs/: `Entries` is what stands at each row.
+-- What follows from the definitions of specs/: `Entries` is what stands at each row; `Charging` what is charged for all points of a month;
+-- `Owing` and `Writing` that the rows are those of `Statement`; `Stating` how the verdict follows closing's, and that an accepted month may
+-- write.
 pub mod Entries
+pub mod Charging
+pub mod Owing
+pub mod Writing
+pub mod Stating

@@ -61,29 +61,31 @@ pub record Rooms : Type 0 where
   pub users : ℕ
   pub payees : ℕ
 
--- 2: a slice too short for the counts of user, agent and point lines; place 1 held, 2 the points' rows, 3 the users', 4 the payees',
--- the lowest that is
-unfoldable pub shortRooms : Rooms → ℕ → ℕ → ℕ → Verdict
-shortRooms n users agents points =
-    when (ltb (n .held) users) 2 1
+-- 2: a slice too short; place 1 held, 2 the points' rows, 3 the users', 4 the payees', the lowest that is. The last count is that of
+-- point lines
+unfoldable pub shortRooms : State → Rooms → ℕ → Verdict
+shortRooms s n points =
+    when (ltb (n .held) (s .users)) 2 1
     then when (ltb (n .points) points) 2 2
-    then when (ltb (n .users) users) 2 3
-    then when (ltb (n .payees) (agents + 1)) 2 4
+    then when (ltb (n .users) (s .users)) 2 3
+    then when (ltb (n .payees) (s .agents + 1)) 2 4
 
 -- closing's refusals in their order, but with this 2
 unfoldable pub statementRefusal : State → Rooms → Lines → Verdict
 statementRefusal s n l =
     when (badCounts s (length (l .users)) (length (l .agents)) (length (l .points))) 1 0
-    then shortRooms n (length (l .users)) (length (l .agents)) (length (l .points))
+    then shortRooms s n (length (l .points))
     then when (badMonth (s .month) (l .month)) 3 0
     then eachLine creditTest 1 (s .credits)
     then lineTests l
     then sumTests (s .credits) l
 
+abbrev pub roomsOf : List ℤ → (points users payees : List (List ℤ)) → Rooms
+roomsOf held points users payees = record { held = length held; points = length points; users = length users; payees = length payees }
+
 -- on this ledger and these slices
 abbrev pub refusalOf : Ledger → List ℤ → (points users payees : List (List ℤ)) → Lines → Verdict
-refusalOf g held points users payees l =
-    statementRefusal (stateOf g held) (record { held = length held; points = length points; users = length users; payees = length payees }) l
+refusalOf g held points users payees l = statementRefusal (stateOf g held) (roomsOf held points users payees) l
 
 -- ---- the call
 -- stating the month l on this ledger and these held credits answered r and left the slices of rows so: entries beyond the rows stay;

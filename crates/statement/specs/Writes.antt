@@ -11,12 +11,18 @@ use Rattle.rules.specs.Charges.{useCharge, VDs}
 use Rattle.rules.specs.Credits.{SMSE}
 use Rattle.charges.specs.declared.scan.Sums.{Sums}
 use Rattle.charges.specs.declared.month.Bills.{Bills}
+use Rattle.charges.specs.Scan.{ScanFinds}
 use Rattle.charges.specs.Month.{pvOf}
 use Rattle.credits.specs.Payable.{Payable}
 use Rattle.statement.specs.declared.points.Charged.{Charged}
 use Rattle.statement.specs.Statement.{pointRows, userRows, payeeRows}
 use Rattle.statement.specs.Columns.{OwedBy}
-use Rattle.statement.specs.Rows.{overrunOf}
+use Rattle.statement.specs.Rows.{overrunOf, chargedPoints}
+
+-- these points are as many as counted; s is what a scan of them finds, c what is charged for each
+pub record Found (users : List (List ℤ)) (count : ℕ) (s : Sums) (c : Charged) (points : List Point) : Type 0 where
+  pub scan : ScanFinds users count s points
+  pub charges : c ≡ chargedPoints (map userOf users) points
 
 -- the bills and what is charged for each point are those of the lines, and every slice has one entry for each of its rows
 pub record Writable (month ons : ℤ) (agents users : List (List ℤ)) (held : List ℤ) (s : Sums) (c : Charged) (bills : Bills) (point-rows user-rows payee-rows : List (List ℤ)) (points : List Point) : Type 0 where

@@ -4,21 +4,17 @@ mod payees;
 mod points;
 mod users;
 
-ghost use Prim.Native.Nat.{_<_};
 ghost use mathlib.Core.Path.{_≡_};
-ghost use mathlib.Core.List.{List, map};
+ghost use mathlib.Core.List.{List};
 ghost use lib.IntN.{ℤ, pos};
-ghost use lib.ListN.{length};
 ghost use Rattle.rules.specs.declared.Answer.the-variants.{Refused};
 ghost use Rattle.rules.specs.declared.Point.{Point};
 ghost use Rattle.rules.specs.Verdict.{when, _then_};
-ghost use Rattle.rules.specs.Lines.{userOf, monthLines};
+ghost use Rattle.rules.specs.Lines.{monthLines};
 ghost use Rattle.rules.specs.Refusals.{badCounts};
 ghost use Rattle.rules.specs.Calls.{stateOf, verdictOf};
-ghost use Rattle.charges.specs.Scan.{ScanFinds};
 ghost use Rattle.statement.specs.Statement.{shortRooms, States};
-ghost use Rattle.statement.specs.Rows.{chargedPoints};
-ghost use Rattle.statement.specs.Writes.{Writable, Written};
+ghost use Rattle.statement.specs.Writes.{Found, Writable, Written};
 use charges::month::Bills;
 use charges::scan::Sums;
 use crate::points::Charged;
@@ -32,6 +28,9 @@ pub struct Stated {
     pub smse: i64,
 }
 
+// Of cells and work, which only a closing fills: more than any month needs.
+const ROOM: u64 = 18_446_744_073_709_551_615;
+
 // A refusal, with no balance.
 fn refused(number: u64, place: u64) -> Stated
     ensures { λ r. ⌜ r ≡ record { answer = Refused number place; smse = pos 0 } ⌝ }
@@ -42,7 +41,7 @@ fn refused(number: u64, place: u64) -> Stated
     }
 }
 
-// 2: the first slice that is too short for these counts.
+// 2: the first slice that is too short; month and credits play no part.
 fn short_rooms(
     users: u64,
     agents: u64,
@@ -52,8 +51,8 @@ fn short_rooms(
     user_rows: u64,
     payee_rows: u64,
 ) -> Answer
-    ensures { λ r. ⌜ verdictOf r
-        ≡ shortRooms (record { held = held; points = «point_rows»; users = «user_rows»; payees = «payee_rows» }) users agents points ⌝ }
+    ensures { λ r. ⌜ ((month : ℤ) (credits : List ℤ) → verdictOf r
+        ≡ shortRooms (record { users = users; agents = agents; month = month; credits = credits }) (record { held = held; points = «point_rows»; users = «user_rows»; payees = «payee_rows» }) points) ⌝ }
 {
     if held < users {
         return Answer::Refused(2, 1);
@@ -83,14 +82,14 @@ fn counts_verdict(
 ) -> Answer
     ensures { λ r. ⌜ ((credits : List ℤ) → verdictOf r
         ≡ (when (badCounts (stateOf ledger credits) users agents points) 1 0
-        then shortRooms (record { held = held; points = «point_rows»; users = «user_rows»; payees = «payee_rows» }) users agents points)) ⌝ }
+        then shortRooms (stateOf ledger credits) (record { held = held; points = «point_rows»; users = «user_rows»; payees = «payee_rows» }) points)) ⌝ }
 {
     if limits::counts::bad_counts(ledger, users, agents, points) {
         return Answer::Refused(1, 0);
     }
     short_rooms(
-        users,
-        agents,
+        ledger.users,
+        ledger.agents,
         points,
         held,
         point_rows,
@@ -125,4 +124,101 @@ fn write(
     let pv = credits::columns::pv_total(agents);
     users::state_users(users, s, bills, pv, held, user_rows);
     payees::state_payees(month, ons, bills.total, agents, payee_rows)
+}
+
+// What is left once the points are scanned: n is their count, s what their scan has found, c what is charged for each.
+fn finish(
+    ledger: Ledger,
+    held: &[i64],
+    month: i64,
+    ons: i64,
+    agents: &[[i64; 7]],
+    users: &[[i64; 3]],
+    n: usize,
+    s: Sums,
+    c: Charged,
+    point_rows: &mut [[i64; 2]],
+    user_rows: &mut [[i64; 9]],
+    payee_rows: &mut [[i64; 5]],
+) -> Stated
+    requires { ⌜ ((points : List Point) × Found (now users) n s c points) ⌝ }
+    ensures { λ r. ⌜ ((points : List Point) → Found (now (users .entry)) n s c points
+        → States ledger (now (held .entry)) (monthLines month ons (now (agents .entry)) (now (users .entry)) points) (now («point_rows» .entry)) (now («user_rows» .entry)) (now («payee_rows» .entry)) r (now («point_rows» .exit)) (now («user_rows» .exit)) (now («payee_rows» .exit))) ⌝ }
+{
+    let first = counts_verdict(
+        ledger,
+        users.len() as u64,
+        agents.len() as u64,
+        n as u64,
+        held.len() as u64,
+        point_rows.len() as u64,
+        user_rows.len() as u64,
+        payee_rows.len() as u64,
+    );
+    match first {
+        Answer::Refused(number, place) => refused(number, place),
+        Answer::Accepted => {
+            let found = closing::judge::judge(
+                ledger,
+                held,
+                month,
+                ons,
+                agents,
+                users,
+                n as u64,
+                s,
+                ROOM,
+                ROOM,
+            );
+            let verdict = found.verdict;
+            match verdict {
+                Answer::Refused(number, place) => refused(number, place),
+                Answer::Accepted => {
+                    let u = users.len();
+                    let m = agents.len() + 1;
+                    let smse = write(
+                        month,
+                        ons,
+                        agents,
+                        users,
+                        &held[..u],
+                        s,
+                        c,
+                        found.bills,
+                        &mut point_rows[..n],
+                        &mut user_rows[..u],
+                        &mut payee_rows[..m],
+                    );
+                    Stated {
+                        answer: Answer::Accepted,
+                        smse,
+                    }
+                }
+            }
+        }
+    }
+}
+
+// Every amount of a month: refusals 1 to 10 with nothing written, or a row for each point, user and payee, and the balance. Entries
+// beyond the rows stay.
+pub fn state(
+    ledger: Ledger,
+    held: &[i64],
+    month: i64,
+    ons: i64,
+    agents: &[[i64; 7]],
+    users: &[[i64; 3]],
+    points: &[Point],
+    point_rows: &mut [[i64; 2]],
+    user_rows: &mut [[i64; 9]],
+    payee_rows: &mut [[i64; 5]],
+) -> Stated
+    ensures { λ r. ⌜ States ledger (now (held .entry)) (monthLines month ons (now (agents .entry)) (now (users .entry)) (now (points .entry))) (now («point_rows» .entry)) (now («user_rows» .entry)) (now («payee_rows» .entry)) r (now («point_rows» .exit)) (now («user_rows» .exit)) (now («payee_rows» .exit)) ⌝ }
+{
+    let n = points.len();
+    let s = ledger::points::scan(points, users);
+    let c = points::charge(points, users);
+    finish(
+        ledger, held, month, ons, agents, users, n, s, c, point_rows, user_rows, payee_rows,
+    )
 }

@@ -46,6 +46,21 @@ pub fn step(c: Charged, users: &[[i64; 3]], i: usize, p: Point) -> Charged
     Charged { uses, overruns }
 }
 
+// What is charged for each of the first 1,024 points.
+pub fn charge(points: &[Point], users: &[[i64; 3]]) -> Charged
+    ensures { λ r. ⌜ r ≡ chargedPoints (map userOf (now (users .entry))) (now (points .entry)) ⌝ }
+{
+    let n = ledger::points::scanned_count(points.len());
+    let mut c = none_charged();
+    let mut i: usize = 0;
+    while i < n {
+        let p = ledger::points::point_at(points, i);
+        c = step(c, users, i, p);
+        i += 1;
+    }
+    c
+}
+
 // Writes a row for each point.
 pub fn rows(uses: &[i64], overruns: &[i64], out: &mut [[i64; 2]])
     requires { ⌜ (length (now uses) ≡ length (now out)) × (length (now overruns) ≡ length (now out)) ⌝ }

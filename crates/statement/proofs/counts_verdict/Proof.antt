@@ -14,7 +14,7 @@ short-rooms-requires : tie.Need-short-rooms-requires
 short-rooms-requires c κs = search needs
 
 returns-2 : tie.Need-returns-2
-returns-2 c = λ credits. rw (sym (c .before .before .bad-counts .ensures credits) ∙ c .before .if1 .left) (c .short-rooms .ensures)
+returns-2 c = λ credits. rw (sym (c .before .before .bad-counts .ensures credits) ∙ c .before .if1 .left) (c .short-rooms .ensures _ _)
 
 pub counts-verdict-spec : {M : Type 1} → statement M
 counts-verdict-spec =
