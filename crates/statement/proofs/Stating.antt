@@ -6,6 +6,7 @@ use mathlib.Core.Path.{_≡_, refl, sym, ap, _∙_}
 use mathlib.Core.Bool.{false, _&&_}
 use mathlib.Core.List.{List, _++_, map}
 use borrow.Author.Tests.{le-ltb, ltb-false}
+use lib.Dec.{ltb}
 use lib.IntN.{ℤ, pos}
 use lib.ListN.{length, take, drop, length-map}
 use lib.Seq.{length-take-le, take-all}
@@ -16,8 +17,8 @@ use Rattle.rules.specs.declared.Answer.the-variants.{Accepted, Refused}
 use Rattle.rules.specs.declared.Ledger.{Ledger}
 use Rattle.rules.specs.declared.Point.{Point}
 use Rattle.rules.specs.Verdict.{Verdict, accepted, refused, when, _then_, eachLine}
-use Rattle.rules.specs.Lines.{Lines, agentOf, userOf, badAmount, monthLines}
-use Rattle.rules.specs.Charges.{EUSTs, pvTotal}
+use Rattle.rules.specs.Lines.{Agent, Lines, agentOf, userOf, badAmount, monthLines}
+use Rattle.rules.specs.Charges.{EUSTs, pvTotal, VDs}
 use Rattle.rules.specs.Credits.{SMSE}
 use Rattle.rules.specs.Refusals.{State, Lengths, badCounts, shortSlices, badMonth, creditTest, agentTest, userTest, pointTest, lineTests, sumTests, refusal}
 use Rattle.rules.specs.Calls.{stateOf, ifAccepted}
@@ -62,6 +63,12 @@ module _ (s : State) (n : Rooms) (l : Lines) where
   first-refuses e = in-order ∙ ap (λ (v : Verdict). v then others) e
 
   -- what 1 and 2 have shown
+  pub record RoomFor : Type 0 where
+    pub held : s .users ≤ n .held
+    pub points : length (l .points) ≤ n .points
+    pub users : s .users ≤ n .users
+    pub payees : s .agents + 1 ≤ n .payees
+
   module _ (e : first ≡ accepted) where
     counts : badCounts s (length (l .users)) (length (l .agents)) (length (l .points)) ≡ false
     counts = when-then _ 1 0 _ e .0
@@ -69,28 +76,18 @@ module _ (s : State) (n : Rooms) (l : Lines) where
     rooms : shortRooms s n (length (l .points)) ≡ accepted
     rooms = when-then (badCounts s (length (l .users)) (length (l .agents)) (length (l .points))) 1 0 _ e .1
 
-    pub held-room : s .users ≤ n .held
+    pub room : RoomFor
     unfolding shortRooms
-    held-room = ltb-false _ _ (when-then _ 2 1 _ rooms .0)
-
-    pub point-room : length (l .points) ≤ n .points
-    unfolding shortRooms
-    point-room = let a = when-then _ 2 1 _ rooms in ltb-false _ _ (when-then _ 2 2 _ (a .1) .0)
-
-    pub user-room : s .users ≤ n .users
-    unfolding shortRooms
-    user-room =
-        let a = when-then _ 2 1 _ rooms in
-        let b = when-then _ 2 2 _ (a .1) in
-        ltb-false _ _ (when-then _ 2 3 _ (b .1) .0)
-
-    pub payee-room : s .agents + 1 ≤ n .payees
-    unfolding shortRooms
-    payee-room =
-        let a = when-then _ 2 1 _ rooms in
-        let b = when-then _ 2 2 _ (a .1) in
-        let c = when-then _ 2 3 _ (b .1) in
-        ltb-false _ _ (when-accepted _ 2 4 (c .1))
+    room =
+        let a = when-then (ltb (n .held) (s .users)) 2 1 _ rooms in
+        let b = when-then (ltb (n .points) (length (l .points))) 2 2 _ (a .1) in
+        let c = when-then (ltb (n .users) (s .users)) 2 3 _ (b .1) in
+        record {
+          held = ltb-false _ _ (a .0);
+          points = ltb-false _ _ (b .0);
+          users = ltb-false _ _ (c .0);
+          payees = ltb-false _ _ (when-accepted (ltb (n .payees) (s .agents + 1)) 2 4 (c .1));
+        }
 
     -- closing's 2 with room for cells and work looks at the held credits alone
     enough : shortSlices s (roomy (n .held)) ≡ accepted
@@ -101,7 +98,7 @@ module _ (s : State) (n : Rooms) (l : Lines) where
         let small : (s .agents + 1) * s .users ≤ 257 * 512 = mul-le-mul j (few .0) in
         let cells : (s .agents + 1) * s .users ≤ 18446744073709551615 = omega arith in
         let work : 2 * ((s .agents + 1) * s .users) + 4 * (s .agents + 1 + s .users) ≤ 18446744073709551615 = omega arith in
-        rw (le-ltb _ _ held-room, le-ltb _ _ cells, le-ltb _ _ work)
+        rw (le-ltb _ _ (room .held), le-ltb _ _ cells, le-ltb _ _ work)
 
     -- so that what refuses a statement from there on is what refuses a closing
     pub as-closing : statementRefusal s n l ≡ refusal s (roomy (n .held)) l
@@ -155,7 +152,9 @@ module _ (g : Ledger) (held : List ℤ) (month ons : ℤ) (agents users : List (
 
     nine : (ltZ (pos 0) (pvTotal lines) && eqZ (sumℤ (EUSTs lines)) (pos 0)) ≡ false
     unfolding sumTests
-    nine = let a = when-then _ 8 0 _ (through .1) in when-then _ 9 0 _ (a .1) .0
+    nine =
+        let a = when-then (eqZ (sumℤ (map (λ (a : Agent). a .pb) (map agentOf agents))) (pos 0)) 8 0 _ (through .1) in
+        when-then (ltZ (pos 0) (pvTotal lines) && eqZ (sumℤ (EUSTs lines)) (pos 0)) 9 0 (when (eqZ (sumℤ (VDs (take (g .users) held) lines)) (pos 0)) 10 0) (a .1) .0
 
     points-passed : eachLine (pointTest (map userOf users)) 1 points ≡ accepted
     unfolding lineTests
