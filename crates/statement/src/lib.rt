@@ -15,9 +15,9 @@ ghost use Rattle.rules.specs.Refusals.{badCounts};
 ghost use Rattle.rules.specs.Calls.{stateOf, verdictOf};
 ghost use Rattle.statement.specs.Statement.{shortRooms, States};
 ghost use Rattle.statement.specs.Writes.{Found, Writable, Written};
+use crate::points::Charged;
 use charges::month::Bills;
 use charges::scan::Sums;
-use crate::points::Charged;
 use rules::Answer;
 use rules::Ledger;
 use rules::Point;
@@ -219,6 +219,17 @@ pub fn state(
     let s = ledger::points::scan(points, users);
     let c = points::charge(points, users);
     finish(
-        ledger, held, month, ons, agents, users, n, s, c, point_rows, user_rows, payee_rows,
+        ledger,
+        held,
+        month,
+        ons,
+        agents,
+        users,
+        n,
+        s,
+        c,
+        point_rows,
+        user_rows,
+        payee_rows,
     )
 }

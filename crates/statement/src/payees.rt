@@ -61,7 +61,13 @@ fn work_out(
 }
 
 // Writes the rows of a month that breaks no limit, `debits` being the sum of what its users owe. Answers the balance.
-pub fn state_payees(month: i64, ons: i64, debits: i64, agents: &[[i64; 7]], out: &mut [[i64; 5]]) -> i64
+pub fn state_payees(
+    month: i64,
+    ons: i64,
+    debits: i64,
+    agents: &[[i64; 7]],
+    out: &mut [[i64; 5]],
+) -> i64
     requires { ⌜ Payable month ons debits (map agentOf (now agents)) × (length (now out) ≡ length (now agents) + 1) ⌝ }
     ensures { λ r. ⌜ StatesPayees month ons debits (map agentOf (now (agents .entry))) r (now (out .exit)) ⌝ }
 {

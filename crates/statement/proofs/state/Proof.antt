@@ -81,32 +81,20 @@ use Rattle.statement.proofs.state.Code.Mir as mir
 
 -- an agent line, a user line, a row of a point, of a user and of a payee; a point, what a scan has found, what is charged for each point,
 -- the ledger and the answer
-abbrev slotA : Slot 7
-slotA = ArrayOf (plain (λ _. i64)) (λ _. tt) 7
+abbrev slot : ℕ → Slot 7
+slot = ArrayOf (plain (λ _. i64)) (λ _. tt)
 
 abbrev Ra : RattleType
 Ra = Array i64 7
 
-abbrev slotU : Slot 7
-slotU = ArrayOf (plain (λ _. i64)) (λ _. tt) 3
-
 abbrev Ru : RattleType
 Ru = Array i64 3
-
-abbrev slotX : Slot 7
-slotX = ArrayOf (plain (λ _. i64)) (λ _. tt) 2
 
 abbrev Rx : RattleType
 Rx = Array i64 2
 
-abbrev slotY : Slot 7
-slotY = ArrayOf (plain (λ _. i64)) (λ _. tt) 9
-
 abbrev Ry : RattleType
 Ry = Array i64 9
-
-abbrev slotZ : Slot 7
-slotZ = ArrayOf (plain (λ _. i64)) (λ _. tt) 5
 
 abbrev Rz : RattleType
 Rz = Array i64 5
@@ -128,7 +116,7 @@ Ro = O.the-row
 
 abbrev stayed : Stays (state.ended .signature .params) (state.ended .kept)
 stayed =
-    (stay-none (λ _. Rg) yes, (stay-none-slice (0 ∷ []) tt (plain (λ _. i64)) yes, (stay-none (λ _. i64) yes, (stay-none (λ _. i64) yes, (stay-none-slice (1 ∷ []) tt slotA yes, (stay-none-slice (2 ∷ []) tt slotU yes, (stay-none-slice (3 ∷ []) tt (plain (λ _. Rp)) yes, (gave-slice (4 ∷ []) tt slotX, (gave-slice (5 ∷ []) tt slotY, (gave-slice (6 ∷ []) tt slotZ, tt))))))))))
+    (stay-none (λ _. Rg) yes, (stay-none-slice (0 ∷ []) tt (plain (λ _. i64)) yes, (stay-none (λ _. i64) yes, (stay-none (λ _. i64) yes, (stay-none-slice (1 ∷ []) tt (slot 7) yes, (stay-none-slice (2 ∷ []) tt (slot 3) yes, (stay-none-slice (3 ∷ []) tt (plain (λ _. Rp)) yes, (gave-slice (4 ∷ []) tt (slot 2), (gave-slice (5 ∷ []) tt (slot 9), (gave-slice (6 ∷ []) tt (slot 5), tt))))))))))
 
 module _ {M : Type 1} (𝓤 : URA M) (H : Heap 𝓤) (A : Atoms 𝓤) (mem : Memory → SProp 𝓤) (run : Routine → Fun 𝓤) where
   -- the contracts that the proof cites
@@ -275,10 +263,10 @@ module _ {M : Type 1} (𝓤 : URA M) (H : Heap 𝓤) (A : Atoms 𝓤) (W : Given
         qed W (TokF ∷ ‵ (finally Rz (zs .name) zs′) ∷ ‵ (finally Ry (ys .name) ys′) ∷ ‵ (finally Rx (xs .name) xs′) ∷ ‵ OwnH ∷ ‵ OwnA ∷ ‵ OwnU ∷ ‵ (flft κp qp) ∷ ‵ OwnP ∷ []) ∵
         suffices ! _ (ends-at 𝓤 H A state.ended stayed (state.clauses 𝓤 H A mem run) W (((κh, (κa, (κu, (κp, (κx, (κy, (κz, tt))))))), (qh, (qa, (qu, (qp, (qx, (qy, (qz, tt))))))), tt, x, vals), tt) u r
         (tt, (tt, (tt, (tt, (tt, (tt, (tt, (xs′, (ys′, (zs′, tt)))))))))) (tt, (tt, (tt, (tt, (tt, (tt, (tt, (lx, (ly, (lz, tt))))))))))) $ says ! e $
-        split ! $ move ! (1 ∷ []) $ split ! $ move ! (1 ∷ []) $ split ! $ move ! (1 ∷ []) $ split ! $ move ! (1 ∷ []) $ split ! $ move ! (1 ∷ []) $ split ! $ move ! (1 ∷ []) $ 
+        split ! $ move ! (1 ∷ []) $ split ! $ move ! (1 ∷ []) $ split ! $ move ! (1 ∷ []) $ split ! $ move ! (1 ∷ []) $ split ! $ move ! (1 ∷ []) $ split ! $ move ! (1 ∷ []) $
         -- [true; the tokens of the payees' rows, the users', the points', of users, agents and held; the last rows of payees, users and points; held; the agents; the users; the points' token; the points]
         move ! (1 ∷ 0 ∷ []) $ join ! $ move ! (1 ∷ 0 ∷ []) $ join ! $ move ! (1 ∷ 0 ∷ []) $ join ! $ move ! (10 ∷ 0 ∷ []) $ join ! $ move ! (1 ∷ 0 ∷ []) $ join ! $ move ! (1 ∷ 0 ∷ []) $ join ! $ move ! (1 ∷ 0 ∷ []) $ join ! $ frame ! $
-        nothing ! $ move ! (1 ∷ 0 ∷ []) $ fjoin ! $ move ! (1 ∷ 0 ∷ []) $ fjoin ! $ move ! (1 ∷ 0 ∷ []) $ fjoin ! $ move ! (4 ∷ 0 ∷ []) $ fjoin ! $ move ! (3 ∷ 0 ∷ []) $ fjoin ! $ move ! (2 ∷ 0 ∷ []) $ fjoin ! $ 
+        nothing ! $ move ! (1 ∷ 0 ∷ []) $ fjoin ! $ move ! (1 ∷ 0 ∷ []) $ fjoin ! $ move ! (1 ∷ 0 ∷ []) $ fjoin ! $ move ! (4 ∷ 0 ∷ []) $ fjoin ! $ move ! (3 ∷ 0 ∷ []) $ fjoin ! $ move ! (2 ∷ 0 ∷ []) $ fjoin ! $
         owned ! i64 (Is i64) (sint-makes 𝓤 H A W w64) ons _ iso $ fjoin ! $ owned ! i64 (Is i64) (sint-makes 𝓤 H A W w64) month _ ism $ fjoin ! $ move ! (1 ∷ 0 ∷ []) $ fjoin ! $
         owned ! Rg (Is Rg) (LL.makes G.the-type G′.the-plain 𝓤 H A) g _ isg $ fjoin ! $ frame ! $ owned ! Ro (Is Ro) (LL.makes O.the-type O′.the-plain 𝓤 H A) r _ is $ done !
 
@@ -323,7 +311,7 @@ module _ {M : Type 1} (𝓤 : URA M) (H : Heap 𝓤) (A : Atoms 𝓤) (W : Given
         body =
             assigns ! (of-opd ! (load ! (from ! (fld ! refl (stop !))) (look-in ! 38 (sub ! 1 refl (whole !))))) (from ! (stop !)) (init ! 30 refl (tt, record { fits = gp .0 })) $
             -- the points and the users are had twice, and one copy of each goes to `scan`
-            move ! (10 ∷ []) $ use1 W (‵ OwnP ⊛ ‵ OwnP) (shr-slice-copy 𝓤 H A W (named 3) κp Rp .twice points (vp ∷ [])) $ split ! $ move ! (12 ∷ []) $ use1 W (‵ OwnU ⊛ ‵ OwnU) (shr-slice-copy 𝓤 H A W (named 2) κu Ru .twice users (vu ∷ [])) $ split ! $ 
+            move ! (10 ∷ []) $ use1 W (‵ OwnP ⊛ ‵ OwnP) (shr-slice-copy 𝓤 H A W (named 3) κp Rp .twice points (vp ∷ [])) $ split ! $ move ! (12 ∷ []) $ use1 W (‵ OwnU ⊛ ‵ OwnU) (shr-slice-copy 𝓤 H A W (named 2) κu Ru .twice users (vu ∷ [])) $ split ! $
             nothing ! $ move ! (9 ∷ 0 ∷ []) $ join ! $ move ! (8 ∷ 0 ∷ []) $ join ! $ nothing ! $ move ! (2 ∷ 0 ∷ []) $ fjoin ! $ move ! (3 ∷ 0 ∷ []) $ fjoin ! $ move ! (1 ∷ 0 ∷ []) $ use2 W (raw (ScanC 𝓤 H A mem run .pre to-scan)) goes-scan $
             -- [its pre; the users; the points; the tokens of the rows, agents and held; the rows; the agents; held; _19 at 13; …; _0 at 51]
             calls-at ! fm (ScanC 𝓤 H A mem run) known-scan to-scan (and-then ! (load ! (from ! (stop !)) (look ! 37 refl)) (and-then ! (load ! (from ! (stop !)) (look ! 39 refl)) (no-more !))) (λ v.
@@ -332,7 +320,7 @@ module _ {M : Type 1} (𝓤 : URA M) (H : Heap 𝓤) (A : Atoms 𝓤) (W : Given
             peeks ! Rs (Is Rs) (shows 𝓤 H A Rs) s (v ∷ []) (λ iss. land ! (from ! (stop !)) (init ! 28 refl (LL.lawful S.the-type S′.the-laws 𝓤 H A W .typed s _ iss .0)) $ drop ! $
             split ! $ move ! (1 ∷ []) $ split ! $ move ! (1 ∷ []) $ drop ! $
             -- [the tokens of users and points; the users; the points; the tokens of the rows, agents and held; the rows; the agents; held; _19 at 14; …; _0 at 52]: so with `charge`
-            move ! (3 ∷ []) $ use1 W (‵ OwnP ⊛ ‵ OwnP) (shr-slice-copy 𝓤 H A W (named 3) κp Rp .twice points (vp ∷ [])) $ split ! $ move ! (4 ∷ []) $ use1 W (‵ OwnU ⊛ ‵ OwnU) (shr-slice-copy 𝓤 H A W (named 2) κu Ru .twice users (vu ∷ [])) $ split ! $ 
+            move ! (3 ∷ []) $ use1 W (‵ OwnP ⊛ ‵ OwnP) (shr-slice-copy 𝓤 H A W (named 3) κp Rp .twice points (vp ∷ [])) $ split ! $ move ! (4 ∷ []) $ use1 W (‵ OwnU ⊛ ‵ OwnU) (shr-slice-copy 𝓤 H A W (named 2) κu Ru .twice users (vu ∷ [])) $ split ! $
             nothing ! $ move ! (5 ∷ 0 ∷ []) $ join ! $ move ! (5 ∷ 0 ∷ []) $ join ! $ nothing ! $ move ! (2 ∷ 0 ∷ []) $ fjoin ! $ move ! (3 ∷ 0 ∷ []) $ fjoin ! $ move ! (1 ∷ 0 ∷ []) $ use2 W (raw (ChargeC 𝓤 H A mem run .pre to-charge)) goes-charge $
             calls-at ! fm (ChargeC 𝓤 H A mem run) known-charge to-charge (and-then ! (load ! (from ! (stop !)) (look ! 37 refl)) (and-then ! (load ! (from ! (stop !)) (look ! 39 refl)) (no-more !))) (λ d.
             use1 W (later (some (λ (c : Charged). (TokS ⊛ ‵ (Rc .own c (d ∷ []))) ⊛ raw (ensured 𝓤 H A charge.ended (charge.clauses 𝓤 H A mem run) (κp, (κu, tt)) (points, (users, tt)) tt c)))) (id⊢ 𝓤 _) $ await ! tt $ pick ! (λ c.
@@ -346,8 +334,8 @@ module _ {M : Type 1} (𝓤 : URA M) (H : Heap 𝓤) (A : Atoms 𝓤) (W : Given
             assigns ! (addr ! (from ! (fld ! refl (hop ! (look-in ! 32 (sub ! 0 refl (whole !))) (stop !))))) (from ! (stop !)) (init ! 16 refl (tt, tt)) $
             assigns ! (agg ! (and-then ! (load ! (from ! (stop !)) (look ! 16 refl)) (and-then ! (load ! (from ! (fld ! refl (stop !))) (look-in ! 32 (sub ! 1 refl (whole !)))) (no-more !)))) (from ! (stop !)) (init ! 14 refl (tt, (tt, (record { fits = gz .0 }, tt)))) $
             -- so with the users, the agents and held, of which one copy goes to `finish`
-            move ! (2 ∷ []) $ use1 W (‵ OwnU ⊛ ‵ OwnU) (shr-slice-copy 𝓤 H A W (named 2) κu Ru .twice users (vu ∷ [])) $ split ! $ move ! (13 ∷ []) $ use1 W (‵ OwnA ⊛ ‵ OwnA) (shr-slice-copy 𝓤 H A W (named 1) κa Ra .twice agents (va ∷ [])) $ split ! $ move ! (15 ∷ []) $ use1 W (‵ OwnH ⊛ ‵ OwnH) (shr-slice-copy 𝓤 H A W (named 0) κh i64 .twice held (vh ∷ [])) $ split ! $ 
-            nothing ! $ move ! (10 ∷ 0 ∷ []) $ join ! $ move ! (10 ∷ 0 ∷ []) $ join ! $ move ! (10 ∷ 0 ∷ []) $ join ! $ move ! (7 ∷ 0 ∷ []) $ join ! $ move ! (9 ∷ 0 ∷ []) $ join ! $ move ! (9 ∷ 0 ∷ []) $ join ! $ 
+            move ! (2 ∷ []) $ use1 W (‵ OwnU ⊛ ‵ OwnU) (shr-slice-copy 𝓤 H A W (named 2) κu Ru .twice users (vu ∷ [])) $ split ! $ move ! (13 ∷ []) $ use1 W (‵ OwnA ⊛ ‵ OwnA) (shr-slice-copy 𝓤 H A W (named 1) κa Ra .twice agents (va ∷ [])) $ split ! $ move ! (15 ∷ []) $ use1 W (‵ OwnH ⊛ ‵ OwnH) (shr-slice-copy 𝓤 H A W (named 0) κh i64 .twice held (vh ∷ [])) $ split ! $
+            nothing ! $ move ! (10 ∷ 0 ∷ []) $ join ! $ move ! (10 ∷ 0 ∷ []) $ join ! $ move ! (10 ∷ 0 ∷ []) $ join ! $ move ! (7 ∷ 0 ∷ []) $ join ! $ move ! (9 ∷ 0 ∷ []) $ join ! $ move ! (9 ∷ 0 ∷ []) $ join ! $
             -- [its tokens; held; held; the agents; the agents; the users; the users; the points' token; the points; the rows of payees, users and points]
             nothing ! $ move ! (10 ∷ 0 ∷ []) $ fjoin ! $ move ! (10 ∷ 0 ∷ []) $ fjoin ! $ move ! (10 ∷ 0 ∷ []) $ fjoin ! $ owned ! Rc (Is Rc) (LL.makes D.the-type D′.the-plain 𝓤 H A) c _ isc $ fjoin ! $ owned ! Rs (Is Rs) (LL.makes S.the-type S′.the-plain 𝓤 H A) s _ iss $ fjoin ! $ owned ! usize (Is usize) (uint-makes 𝓤 H A W w64) n _ (refl, gp .0) $ fjoin ! $
             move ! (6 ∷ 0 ∷ []) $ fjoin ! $ move ! (4 ∷ 0 ∷ []) $ fjoin ! $ owned ! i64 (Is i64) (sint-makes 𝓤 H A W w64) ons _ iso $ fjoin ! $ owned ! i64 (Is i64) (sint-makes 𝓤 H A W w64) month _ ism $ fjoin ! $
@@ -360,7 +348,7 @@ module _ {M : Type 1} (𝓤 : URA M) (H : Heap 𝓤) (A : Atoms 𝓤) (W : Given
             use1 W (some (λ (ws : Unit {0} × (Unit {0} × (Unit {0} × (Unit {0} × (Unit {0} × (Unit {0} × (Unit {0} × (Unit {0} × (Unit {0} × (List (List ℤ) × (List (List ℤ) × (List (List ℤ) × Unit {0})))))))))))). ‵ (lasts finish.ended (κh, (κa, (κu, (κx, (κy, (κz, tt)))))) (handed s c) ws)
             ⊛ raw (fact 𝓤 (FinishSaid s c r (ws .1 .1 .1 .1 .1 .1 .1 .1 .1 .0) (ws .1 .1 .1 .1 .1 .1 .1 .1 .1 .1 .0) (ws .1 .1 .1 .1 .1 .1 .1 .1 .1 .1 .1 .0))))) (id⊢ 𝓤 _) $ pick ! (λ ws.
             split ! $ move ! (1 ∷ []) $ heard ! (FinishSaid s c r (ws .1 .1 .1 .1 .1 .1 .1 .1 .1 .0) (ws .1 .1 .1 .1 .1 .1 .1 .1 .1 .1 .0) (ws .1 .1 .1 .1 .1 .1 .1 .1 .1 .1 .1 .0)) (λ e.
-            fsplit ! $ drop ! $ fsplit ! $ drop ! $ fsplit ! $ drop ! $ fsplit ! $ drop ! $ fsplit ! $ drop ! $ fsplit ! $ drop ! $ fsplit ! $ drop ! $ fsplit ! $ drop ! $ fsplit ! $ drop ! $ 
+            fsplit ! $ drop ! $ fsplit ! $ drop ! $ fsplit ! $ drop ! $ fsplit ! $ drop ! $ fsplit ! $ drop ! $ fsplit ! $ drop ! $ fsplit ! $ drop ! $ fsplit ! $ drop ! $ fsplit ! $ drop ! $
             fsplit ! $ fsplit ! $ move ! (1 ∷ []) $ feqL ! (λ lx. move ! (1 ∷ []) $ fsplit ! $ fsplit ! $ move ! (1 ∷ []) $ feqL ! (λ ly. move ! (1 ∷ []) $ fsplit ! $ fsplit ! $ move ! (1 ∷ []) $ feqL ! (λ lz. move ! (1 ∷ []) $ drop ! $
             -- [the last rows of payees, users and points; the tokens and what r owns; held; the agents; the users; the points' token; the points; _19 at 9; …]
             move ! (3 ∷ []) $ split ! $ move ! (1 ∷ []) $ peeks ! Ro (Is Ro) (shows 𝓤 H A Ro) r (w ∷ []) (λ isr. land ! (from ! (stop !)) (init ! 48 refl (LL.lawful O.the-type O′.the-laws 𝓤 H A W .typed r _ isr .0)) $ drop ! $
@@ -396,7 +384,7 @@ state-meets : {M : Type 1} (𝓤 : URA M) (H : Heap 𝓤) (A : Atoms 𝓤) (W : 
     → Triple 𝓤 (𝓣 .C #scan) (ScanC 𝓤 H A mem run) → Triple 𝓤 (𝓣 .C #charge) (ChargeC 𝓤 H A mem run) → Triple 𝓤 (𝓣 .C #finish) (FinishC 𝓤 H A mem run)
     → Meets 𝓤 H A state.signature (WpFn 𝓤 H (𝓣 .C) (𝓣 .Λ) code.function) (state.spec 𝓤 H A mem run)
 state-meets 𝓤 H A W mem run 𝓣 known-scan known-charge known-finish = walk-meets 𝓤 H A state.ended stayed W
-    (goes-none 𝓤 H A W 7 (λ _. Rg) yes (λ κs x f. refl), (goes-none-slice 𝓤 H A W 7 (0 ∷ []) tt (plain (λ _. i64)) yes, (goes-none 𝓤 H A W 7 (λ _. i64) yes (λ κs x f. refl), (goes-none 𝓤 H A W 7 (λ _. i64) yes (λ κs x f. refl), (goes-none-slice 𝓤 H A W 7 (1 ∷ []) tt slotA yes, (goes-none-slice 𝓤 H A W 7 (2 ∷ []) tt slotU yes, (goes-none-slice 𝓤 H A W 7 (3 ∷ []) tt (plain (λ _. Rp)) yes, (goes-gave-slice 𝓤 H A W 7 4 tt slotX, (goes-gave-slice 𝓤 H A W 7 5 tt slotY, (goes-gave-slice 𝓤 H A W 7 6 tt slotZ, tt))))))))))
+    (goes-none 𝓤 H A W 7 (λ _. Rg) yes (λ κs x f. refl), (goes-none-slice 𝓤 H A W 7 (0 ∷ []) tt (plain (λ _. i64)) yes, (goes-none 𝓤 H A W 7 (λ _. i64) yes (λ κs x f. refl), (goes-none 𝓤 H A W 7 (λ _. i64) yes (λ κs x f. refl), (goes-none-slice 𝓤 H A W 7 (1 ∷ []) tt (slot 7) yes, (goes-none-slice 𝓤 H A W 7 (2 ∷ []) tt (slot 3) yes, (goes-none-slice 𝓤 H A W 7 (3 ∷ []) tt (plain (λ _. Rp)) yes, (goes-gave-slice 𝓤 H A W 7 4 tt (slot 2), (goes-gave-slice 𝓤 H A W 7 5 tt (slot 9), (goes-gave-slice 𝓤 H A W 7 6 tt (slot 5), tt))))))))))
     (state.clauses 𝓤 H A mem run) (WpFn 𝓤 H (𝓣 .C) (𝓣 .Λ) code.function) (WpFn-mono 𝓤 H (W .laws) 𝓣 code.function)
     (state-walks 𝓤 H A W mem run (𝓣 .C) (𝓣 .Λ) (fmOf 𝓤 H (W .laws) 𝓣) known-scan known-charge known-finish)
 

@@ -62,13 +62,13 @@ pv-total-requires : tie.Need-pv-total-requires
 pv-total-requires c κs = search needs
 
 state-users-requires : tie.Need-state-users-requires
-state-users-requires c κs = 
+state-users-requires c κs =
     let s = c .before .before .before .before .before .before .before .before .before in
     let w = s .pre .1 in
     rw (toZ-ofZ (pv-fits (c .before)), pv-is (c .before)) ((_, w .owed), w .user-count)
 
 state-payees-requires : tie.Need-state-payees-requires
-state-payees-requires c κs = 
+state-payees-requires c κs =
     let s = c .before .before .before .before .before .before .before .before .before .before .before .before .before in
     let w = s .pre .1 in
     rw (toZ-ofZ (s .fits .month), toZ-ofZ (s .fits .ons), toZ-ofZ (total-fits s), w .owed .billed .total) (w .payable, w .payee-count)

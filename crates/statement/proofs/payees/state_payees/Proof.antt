@@ -33,7 +33,7 @@ slice-aggregate-work-out-3 : tie.Need-slice-aggregate-work-out-3
 slice-aggregate-work-out-3 c = sym (length-take-le _ _ (few (c .before .before .before)))
 
 work-out-requires : tie.Need-work-out-requires
-work-out-requires c κs = 
+work-out-requires c κs =
     let s = c .before .before .before .before in (
       rw (toZ-ofZ (s .fits .month), toZ-ofZ (s .fits .ons), toZ-ofZ (s .fits .debits)) (s .pre .0),
       length-take-le _ _ (few s),
@@ -46,7 +46,7 @@ same-length : tie.Need-same-length
 same-length c = search needs
 
 returns : tie.Need-returns
-returns c = 
+returns c =
     let d = c .before .before .before .before in
     let s = d .before .before .before .before .before in
     let f : SFits w64 (d .work-out .result) = search needs in

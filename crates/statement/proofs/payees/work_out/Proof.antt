@@ -24,7 +24,7 @@ slice-aggregate-rows : tie.Need-slice-aggregate-rows
 slice-aggregate-rows c = sym (length-take-le _ _ (omega (arith, c .before .before .before .before .before .before .before .before .before .before .pre .4)))
 
 rows-requires : tie.Need-rows-requires
-rows-requires c κs = 
+rows-requires c κs =
     let d = c .before .before .before .before .before .before in
     let s = c .before .before .before .before .before .before .before .before .before .before in (
       rw (toZ-ofZ (s .fits .month)) (s .pre .0 .possible),
@@ -53,7 +53,7 @@ same-length-4 : tie.Need-same-length-4
 same-length-4 c = search needs
 
 returns : tie.Need-returns
-returns c = 
+returns c =
     let r = c .before in
     let d = c .before .before .before .before .before .before .before .before in
     let s = c .before .before .before .before .before .before .before .before .before .before .before .before in

@@ -144,7 +144,7 @@ net-fits : (c : tie.After-net Inv-loop μ-loop) → SFits w64 (c .net .result)
 net-fits c = search needs
 
 slice-set-from-row : tie.Need-slice-set-from-row Inv-loop μ-loop
-slice-set-from-row c = 
+slice-set-from-row c =
     let d = c .before .before .before .before .before .before .before .before .before in
     let s = start d in
     omega (arith, filling-long (same s) (turn d .before .loop .inv), turn d .loop-test .taken, s .pre .out-count)
@@ -156,7 +156,7 @@ loop-less : tie.Need-loop-less Inv-loop μ-loop
 loop-less c = omega arith
 
 loop-again : tie.Need-loop-again Inv-loop μ-loop
-loop-again c = 
+loop-again c =
     let t = c .before .before .before .before .before in
     let e = t .before .before .before in
     let d = e .before in
@@ -165,17 +165,18 @@ loop-again c =
     let h = turn d .loop-test .taken in
     let w = words d in
     let n = rw (toZ-ofZ (w .0 .fits), toZ-ofZ (w .1 .fits), toZ-ofZ (w .2 .fits)) at (e .net .ensures) in
-    rw
-    (toZ-ofZ (uses-fit (t .before .before)),
-    toZ-ofZ (overruns-fit (t .before)),
-    toZ-ofZ (ret-fit t),
-    toZ-ofZ (w .0 .fits),
-    toZ-ofZ (w .1 .fits),
-    toZ-ofZ (w .2 .fits),
-    toZ-ofZ (net-fits e),
-    toZ-ofZ (debits-fit (c .before)),
-    toZ-ofZ (credits-fit c),
-    n)
+    rw (
+      toZ-ofZ (uses-fit (t .before .before)),
+      toZ-ofZ (overruns-fit (t .before)),
+      toZ-ofZ (ret-fit t),
+      toZ-ofZ (w .0 .fits),
+      toZ-ofZ (w .1 .fits),
+      toZ-ofZ (w .2 .fits),
+      toZ-ofZ (net-fits e),
+      toZ-ofZ (debits-fit (c .before)),
+      toZ-ofZ (credits-fit c),
+      n,
+    )
     (filling-more (same s) (turn d .before .loop .inv) [] (omega (arith, h, s .pre .out-count)) (sym (user-row-at (s .pre) (i d) h)))
 
 same-length : tie.Need-same-length Inv-loop μ-loop

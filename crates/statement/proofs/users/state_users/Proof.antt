@@ -73,7 +73,7 @@ slice-aggregate-work-out-6 : tie.Need-slice-aggregate-work-out-6
 slice-aggregate-work-out-6 c = sym (length-take-le _ _ (reach (c .before .before .before .before .before .before .before .before .before .before)))
 
 work-out-requires : tie.Need-work-out-requires
-work-out-requires c κs = 
+work-out-requires c κs =
     let s = c .before .before .before .before .before .before .before .before .before .before .before in
     rw (toZ-ofZ (s .fits .pv)) ((_, owed (s .pre .0 .1)), length-take-le _ _ (reach s), take-same _ 512 (pos 0) (reach s), s .pre .1)
 

@@ -26,7 +26,7 @@ compensate-requires : tie.Need-compensate-requires
 compensate-requires c κs = let s = c .before .before .before .before in rw (toZ-ofZ (s .fits .pv)) (compensable (s .pre .0 .1 .month) (s .pre .2))
 
 rows-requires : tie.Need-rows-requires
-rows-requires c κs = 
+rows-requires c κs =
     let d = c .before .before .before .before in
     let v = d .before .before .before in
     let s = v .before .before in
