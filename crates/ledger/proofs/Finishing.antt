@@ -1,4 +1,5 @@
--- A closing that was judged: refused, it changes nothing; accepted, it may write, and what it writes is what closing promises.
+-- A closing that was judged: refused, it changes nothing.
+-- Accepted, it may write, and what it writes is what closing promises.
 use Prim.Native.Nat.{ℕ, _+_, _*_, _≤_}
 use mathlib.Core.Path.{_≡_, sym, ap, _∙_}
 use mathlib.Core.List.{List, _++_}
@@ -10,12 +11,13 @@ use Rattle.rules.specs.declared.Ledger.{Ledger}
 use Rattle.rules.specs.declared.Point.{Point}
 use Rattle.rules.specs.Verdict.{accepted}
 use Rattle.rules.specs.Lines.{Lines, monthLines}
-use Rattle.rules.specs.Calls.{verdictOf, lengthsOf, closingRefusal, Closes}
+use Rattle.rules.specs.Calls.{verdictOf, lengthsOf, closingRefusal}
 use Rattle.rules.proofs.Promise.{closes-refused, closes-accepted}
 use Rattle.closing.specs.declared.judge.Judged.{Judged}
 use Rattle.closing.specs.Judged.{Judges}
 use Rattle.closing.specs.Written.{Writable, Written}
 use Rattle.closing.proofs.Ready.{user-count, cell-count, held-reach, cells-reach, writable}
+use Rattle.ledger.specs.Promise.{Closed}
 
 -- what was found of this closing
 pub record Found (g : Ledger) (held cells : List ℤ) (work : List ℕ) (month ons : ℤ) (agents users : List (List ℤ)) (points : List Point) (r : Judged) : Type 0 where
@@ -25,7 +27,7 @@ module _ {g : Ledger} {held cells : List ℤ} {work : List ℕ} {month ons : ℤ
   abbrev l : Lines
   l = monthLines month ons agents users points
 
-  pub refused-closes : {n p : ℕ} → r .verdict ≡ Refused n p → Closes g held l cells work (record { answer = Refused n p; ledger = g }) held cells work
+  pub refused-closes : {n p : ℕ} → r .verdict ≡ Refused n p → Closed g held l cells work (record { answer = Refused n p; ledger = g }) held cells work
   refused-closes {n} {p} e = closes-refused g held l cells work n p (sym (f .judged .verdict) ∙ ap verdictOf e)
 
   module _ (e : r .verdict ≡ Accepted) where
@@ -46,7 +48,7 @@ module _ {g : Ledger} {held cells : List ℤ} {work : List ℕ} {month ons : ℤ
         {held′ cells′ : List ℤ} {work′ : List ℕ}
         → Written (take (length users) held) l work held′ cells′ work′
         → length cells′ ≡ length (take ((length agents + 1) * length users) cells)
-        → Closes g held l cells work (record { answer = Accepted; ledger = record { users = g .users; agents = g .agents; month = month } })
+        → Closed g held l cells work (record { answer = Accepted; ledger = record { users = g .users; agents = g .agents; month = month } })
         (held′ ++ drop (length users) held)
         (cells′ ++ drop ((length agents + 1) * length users) cells)
         work′

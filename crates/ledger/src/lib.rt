@@ -8,8 +8,9 @@ ghost use lib.ListN.{length, replicate};
 ghost use Rattle.rules.specs.declared.Point.{Point};
 ghost use Rattle.rules.specs.Lines.{monthLines};
 ghost use Rattle.rules.specs.declared.Answer.the-variants.{Refused};
-ghost use Rattle.rules.specs.Calls.{emptyLedger, Opens, Closes};
+ghost use Rattle.rules.specs.Calls.{emptyLedger, Opens};
 ghost use Rattle.charges.specs.Scan.{ScanFinds};
+ghost use Rattle.ledger.specs.Promise.{Closed};
 use charges::scan::Sums;
 use rules::Answer;
 use rules::Ledger;
@@ -79,7 +80,7 @@ fn finish(
 ) -> Outcome
     requires { ⌜ ((points : List Point) × ScanFinds (now users) n s points) ⌝ }
     ensures { λ r. ⌜ ((points : List Point) → ScanFinds (now (users .entry)) n s points
-        → Closes ledger (now (held .entry)) (monthLines month ons (now (agents .entry)) (now (users .entry)) points) (now (cells .entry)) (now (work .entry)) r (now (held .exit)) (now (cells .exit)) (now (work .exit))) ⌝ }
+        → Closed ledger (now (held .entry)) (monthLines month ons (now (agents .entry)) (now (users .entry)) points) (now (cells .entry)) (now (work .entry)) r (now (held .exit)) (now (cells .exit)) (now (work .exit))) ⌝ }
 {
     let found = closing::judge::judge(
         ledger,
@@ -135,7 +136,7 @@ pub fn close(
     cells: &mut [i64],
     work: &mut [u64],
 ) -> Outcome
-    ensures { λ r. ⌜ Closes ledger (now (held .entry)) (monthLines month ons (now (agents .entry)) (now (users .entry)) (now (points .entry))) (now (cells .entry)) (now (work .entry)) r (now (held .exit)) (now (cells .exit)) (now (work .exit)) ⌝ }
+    ensures { λ r. ⌜ Closed ledger (now (held .entry)) (monthLines month ons (now (agents .entry)) (now (users .entry)) (now (points .entry))) (now (cells .entry)) (now (work .entry)) r (now (held .exit)) (now (cells .exit)) (now (work .exit)) ⌝ }
 {
     let n = points.len();
     let s = points::scan(points, users);

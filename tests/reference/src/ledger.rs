@@ -10,7 +10,7 @@ use crate::table::some_table;
 pub struct Ledger {
     pub users: u64,
     pub agents: u64,
-    pub month: u64,
+    pub month: i64,
 }
 
 /// Opens a ledger and zeroes the held credit of each user. A refused opening answers an empty ledger, `held` as it was.
@@ -43,5 +43,5 @@ pub fn close(
     }
     let table = some_table(&amounts.credits.vc, &amounts.charges.vd);
     cells[..table.len()].copy_from_slice(&table);
-    (Ledger { month: lines.month as u64, ..ledger }, Ok(amounts))
+    (Ledger { month: lines.month, ..ledger }, Ok(amounts))
 }

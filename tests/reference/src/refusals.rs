@@ -99,7 +99,7 @@ fn slices(lengths: Lengths, lines: &MonthLines) -> Option<Refusal> {
 
 fn month(ledger: &Ledger, lines: &MonthLines) -> Option<Refusal> {
     let month = i128::from(lines.month);
-    refuse_unless(is_month(month) && month > i128::from(ledger.month), 3, 0)
+    refuse_unless(is_month(month) && month > ledger.month.into(), 3, 0)
 }
 
 fn held_credits(credits: &[i128], lines: &MonthLines) -> Option<Refusal> {

@@ -11,7 +11,7 @@ use crate::refusals::{self, Lengths, Refusal};
 pub struct Tally {
     pub users: u64,
     pub agents: u64,
-    pub month: u64,
+    pub month: i64,
     pub credits: Vec<i128>,
 }
 
@@ -29,7 +29,7 @@ impl Tally {
         }
         let amounts = Amounts::of_month(lines, &self.credits);
         self.credits = amounts.charges.held.clone();
-        self.month = lines.month as u64;
+        self.month = lines.month;
         Ok(amounts)
     }
 }

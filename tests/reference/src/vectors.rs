@@ -35,10 +35,15 @@ fn share(vector: &Json) -> Result<(), String> {
     same("answer", &share_c(p, before, through, w), &answer)
 }
 
+/// The opening of a vector: counts of users and agents, and the length of the held slice.
+pub fn opening_call(vector: &Json) -> Result<(u64, u64, usize), String> {
+    Ok((whole(vector, "users")?, whole(vector, "agents")?, whole(vector, "held_len")?))
+}
+
 fn opening(vector: &Json) -> Result<(), String> {
     const MARK: i64 = -7;
-    let (users, agents) = (whole(vector, "users")?, whole(vector, "agents")?);
-    let mut held = vec![MARK; whole(vector, "held_len")?];
+    let (users, agents, held_length) = opening_call(vector)?;
+    let mut held = vec![MARK; held_length];
     let (ledger, refused) = ledger::open(users, agents, &mut held);
     same("ledger", &ledger, &ledger_of(field(vector, "ledger")?)?)?;
     same("refusal", &refused, &refusal(field(vector, "refused")?)?)?;
@@ -47,14 +52,31 @@ fn opening(vector: &Json) -> Result<(), String> {
     same("held slice", &as_it_should, &true)
 }
 
+/// The closing of a vector, with the lengths of the slices for cells and for work.
+pub struct ClosingCall {
+    pub ledger: Ledger,
+    pub held: Vec<i64>,
+    pub lines: MonthLines,
+    pub cells: usize,
+    pub work: usize,
+}
+
+pub fn closing_call(vector: &Json) -> Result<ClosingCall, String> {
+    Ok(ClosingCall {
+        ledger: ledger_of(field(vector, "ledger")?)?,
+        held: numbers(field(vector, "held")?)?,
+        lines: month_lines(vector)?,
+        cells: whole(vector, "cells_len")?,
+        work: whole(vector, "work_len")?,
+    })
+}
+
 fn closing(vector: &Json) -> Result<(), String> {
     const MARK: i64 = -7;
-    let ledger = ledger_of(field(vector, "ledger")?)?;
-    let held: Vec<i64> = numbers(field(vector, "held")?)?;
-    let lines = month_lines(vector)?;
+    let ClosingCall { ledger, held, lines, cells, work } = closing_call(vector)?;
     let mut after = held.clone();
-    let mut cells = vec![MARK; whole(vector, "cells_len")?];
-    let (moved, answer) = ledger::close(ledger, &mut after, &lines, &mut cells, whole(vector, "work_len")?);
+    let mut cells = vec![MARK; cells];
+    let (moved, answer) = ledger::close(ledger, &mut after, &lines, &mut cells, work as u64);
     let expect = field(vector, "expect")?;
     let amounts = match answer {
         Err(refused) => {
@@ -84,7 +106,7 @@ fn closing(vector: &Json) -> Result<(), String> {
         same(name, amounts, &numbers(field(expect, name)?)?)?;
     }
     same("smse", &credits.smse, &whole(expect, "smse")?)?;
-    same("ledger", &moved, &Ledger { month: lines.month as u64, ..ledger })?;
+    same("ledger", &moved, &Ledger { month: lines.month, ..ledger })?;
     let users = lines.users.len();
     let new: Vec<i128> = after[..users].iter().map(|&credit| credit.into()).collect();
     same("new held credits", &new, &charges.held)?;
@@ -139,7 +161,12 @@ fn month_lines(record: &Json) -> Result<MonthLines, String> {
 }
 
 fn ledger_of(list: &Json) -> Result<Ledger, String> {
-    row(list).map(|[users, agents, month]| Ledger { users, agents, month })
+    match list.list() {
+        Some([users, agents, month]) => {
+            Ok(Ledger { users: number(users)?, agents: number(agents)?, month: number(month)? })
+        }
+        _ => Err("a ledger is three numbers".to_string()),
+    }
 }
 
 fn refusal(pair: &Json) -> Result<Option<Refusal>, String> {

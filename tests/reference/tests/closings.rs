@@ -13,7 +13,7 @@ use rateio_reference::tally::Demand;
 /// What untouched entries hold.
 const MARK: i64 = -77;
 
-fn ledger_of(lines: &MonthLines, month: u64) -> Ledger {
+fn ledger_of(lines: &MonthLines, month: i64) -> Ledger {
     Ledger { users: lines.users.len() as u64, agents: lines.agents.len() as u64, month }
 }
 
@@ -135,7 +135,7 @@ fn refusals_of_the_ledger_and_its_slices() {
     for (month, due) in [(202_406, None), (200_001, None), (202_408, Some((3, 0))), (209_912, Some((3, 0)))] {
         assert_eq!(answer(Ledger { month, ..ledger }, &[0; 3], 9, 42), due);
     }
-    for month in [1, 202_400, 202_413, 199_912, 210_001, u64::MAX] {
+    for month in [1, 202_400, 202_413, 199_912, 210_001, i64::MAX, -1, -202_406, i64::MIN] {
         assert_eq!(answer(Ledger { month, ..ledger }, &[], 0, 0), Some((1, 0)));
     }
     assert_eq!(answer(Ledger { users: 4, ..ledger }, &[0; 3], 9, 42), Some((1, 0)));
@@ -158,7 +158,7 @@ fn an_accepted_closing_changes_what_it_should() {
         match answer {
             Ok(Amounts { charges, credits }) => {
                 accepted += 1;
-                assert_eq!(moved, Ledger { month: lines.month as u64, ..ledger });
+                assert_eq!(moved, Ledger { month: lines.month, ..ledger });
                 let (new, beyond) = after.split_at(counts.users);
                 assert_eq!(new.iter().map(|&credit| i128::from(credit)).collect::<Vec<_>>(), charges.held);
                 assert_eq!(beyond, &held[counts.users..]);
@@ -215,7 +215,7 @@ fn the_tally_agrees_over_lists_of_closings() {
             let mut cells = vec![MARK; lengths.cells as usize];
             let (moved, answer) = close(ledger, &mut held[..lent], &lines, &mut cells, lengths.work);
             ledger = moved;
-            last = if ledger.month == 0 { last } else { ledger.month as i64 };
+            last = if ledger.month == 0 { last } else { ledger.month };
             match &answer {
                 Ok(_) => accepted += 1,
                 Err(refusal) => refused[refusal.number as usize] += 1,

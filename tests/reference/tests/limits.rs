@@ -92,7 +92,7 @@ fn rows(columns: usize, change: fn(&mut Case, usize, usize, i64)) -> String {
     text
 }
 
-fn counts(month: u64) -> String {
+fn counts(month: i64) -> String {
     let case = |users: u64, agents: u64, points: usize, ledger_users, ledger_agents| {
         let mut case = Case::new(agents, users);
         case.ledger = Ledger { users: ledger_users, agents: ledger_agents, month };

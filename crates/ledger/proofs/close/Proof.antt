@@ -46,7 +46,6 @@ use Rattle.rules.specs.declared.Point.{Point}
 use Rattle.rules.specs.declared.Ledger.{Ledger}
 use Rattle.rules.specs.declared.Outcome.{Outcome}
 use Rattle.rules.specs.Lines.{userOf, monthLines}
-use Rattle.rules.specs.Calls.{Closes}
 use Rattle.rules.proofs.Point as P
 use Rattle.rules.proofs.Ledger as G
 use Rattle.rules.proofs.Ledger.Laws as G′
@@ -56,6 +55,7 @@ use Rattle.charges.specs.declared.scan.Sums.{Sums}
 use Rattle.charges.specs.Scan.{scanned, ScanFinds}
 use Rattle.charges.proofs.scan.Sums as S
 use Rattle.charges.proofs.scan.Sums.Laws as S′
+use Rattle.ledger.specs.Promise.{Closed}
 use Rattle.ledger.proofs.points.scan as scan
 use Rattle.ledger.proofs.points.scan.Symbol as scan-def
 use Rattle.ledger.proofs.points.scan.Symbol.{name as #scan}
@@ -131,7 +131,7 @@ module _ {M : Type 1} (𝓤 : URA M) (H : Heap 𝓤) (A : Atoms 𝓤) (W : Given
     (g : Ledger) (held : RefT (List ℤ)) (month ons : ℤ) (agents users : RefT (List (List ℤ))) (points : RefT (List Point)) (cells : RefT (List ℤ)) (work : RefT (List ℕ)) where
   -- what is promised of the month with these points, in which the answer is r and the lent slices are left so
   abbrev Said : List Point → Outcome → List ℤ → List ℤ → List ℕ → Type 0
-  Said ps r held′ cells′ work′ = Closes g (held .now) (monthLines month ons (agents .now) (users .now) ps) (cells .now) (work .now) r held′ cells′ work′
+  Said ps r held′ cells′ work′ = Closed g (held .now) (monthLines month ons (agents .now) (users .now) ps) (cells .now) (work .now) r held′ cells′ work′
 
   abbrev n : ℕ
   n = length (points .now)

@@ -1,4 +1,5 @@
--- Judged first: a refused month changes nothing, an accepted one is written over the front of the held credits and the cells.
+-- Judged first: a refused month changes nothing.
+-- An accepted one is written over the front of the held credits and of the cells.
 use native.Mathlib.Omega.{arith}
 use Prim.Native.Nat.{_+_, _*_, _≤_}
 use mathlib.Core.Path.{sym}
