@@ -1,13 +1,13 @@
 -- What stands at each row of users and agents, from their lines and columns; and how many rows there are.
 use Prim.Native.Nat.{ℕ, _<_}
 use native.Mathlib.Omega.{arith}
-use mathlib.Core.Path.{_≡_, sym, ap, ap₂, _∙_}
+use mathlib.Core.Path.{_≡_, sym, ap, _∙_}
 use mathlib.Core.List.{List, [], _∷_, map}
 use lib.IntN.{ℤ, pos, _-ℤ_}
 use lib.ListN.{length, getD, length-map}
 use Rattle.rules.specs.Calendar.{cycleMonth}
 use Rattle.rules.specs.Lists.{eachFrom, sideBySide, length-eachFrom, getD-eachFrom, length-sideBySide, getD-sideBySide, getD-map}
-use Rattle.rules.specs.Lines.{Agent, User, agentOf, userOf}
+use Rattle.rules.specs.Lines.{agentOf, userOf}
 use Rattle.rules.specs.Credits.{VMST, VMPA}
 use Rattle.charges.specs.Month.{nets}
 use Rattle.statement.specs.Statement.{at, userRowsOf, agentRowsOf}

@@ -9,7 +9,7 @@ use borrow.Author.Tests.{le-ltb, ltb-false}
 use lib.Dec.{ltb}
 use lib.IntN.{ℤ, pos}
 use lib.ListN.{length, take, drop, length-map}
-use lib.Seq.{length-take-le, take-all}
+use lib.Seq.{length-take-le}
 use lib.Signed.{ltZ}
 use Rattle.ints.specs.Range.{eqZ}
 use Rattle.ints.specs.Sums.{sumℤ}
@@ -27,14 +27,13 @@ use Rattle.rules.proofs.Passed.{Passed, passed}
 use Rattle.limits.proofs.Laws.{few-counts, then-assoc}
 use Rattle.charges.specs.declared.scan.Sums.{Sums}
 use Rattle.charges.specs.declared.month.Bills.{Bills}
-use Rattle.charges.specs.Scan.{scanned}
 use Rattle.charges.specs.Month.{Billed}
 use Rattle.charges.proofs.Ready.{ready}
 use Rattle.credits.proofs.Tested.{payable-passed}
 use Rattle.closing.specs.Judged.{throughLines}
 use Rattle.closing.proofs.Judging.{Judgeable, passed-7, sums-last}
 use Rattle.statement.specs.declared.points.Charged.{Charged}
-use Rattle.statement.specs.Statement.{pointRows, userRows, payeeRows, Rooms, shortRooms, statementRefusal, roomsOf, refusalOf, States}
+use Rattle.statement.specs.Statement.{pointRows, userRows, payeeRows, Rooms, shortRooms, statementRefusal, refusalOf, States}
 use Rattle.statement.specs.Writes.{Found, Writable, Written}
 use Rattle.statement.proofs.Charging.{all-charged}
 

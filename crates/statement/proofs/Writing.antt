@@ -1,20 +1,20 @@
 -- What is written are the rows of the statement.
 use Prim.Native.Nat.{ℕ, suc, _+_, _<_}
 use native.Mathlib.Omega.{arith}
-use mathlib.Core.Path.{_≡_, refl, sym, ap, ap₂, _∙_}
+use mathlib.Core.Path.{_≡_, refl, ap, ap₂, _∙_}
 use mathlib.Core.List.{List, [], _∷_, _++_, map}
-use lib.IntN.{ℤ, pos, _+ℤ_}
-use lib.ListN.{length, getD, length-append, List·getD-append}
+use lib.IntN.{ℤ, pos}
+use lib.ListN.{length, length-append, List·getD-append}
 use Rattle.ints.specs.Sums.{sumℤ}
 use Rattle.share.specs.Running.{runningShare}
 use Rattle.rules.specs.declared.Point.{Point}
 use Rattle.rules.specs.Lists.{eachFrom, sideBySide}
-use Rattle.rules.specs.Lines.{Agent, Lines, userOf}
+use Rattle.rules.specs.Lines.{Agent, Lines}
 use Rattle.rules.specs.Charges.{useCharge, VDs}
 use Rattle.rules.specs.Credits.{ownCredits, SMSE, VMANTs, VCs}
 use Rattle.rules.proofs.Sizes.{length-VCs}
 use Rattle.credits.specs.Payable.{balanceOf, agentVCs}
-use Rattle.statement.specs.Statement.{at, pointRows, agentRowsOf, onsRow, payeeRows}
+use Rattle.statement.specs.Statement.{pointRows, agentRowsOf, onsRow, payeeRows}
 use Rattle.statement.specs.Rows.{overrunOf, pairs}
 
 -- ---- the points

@@ -1,12 +1,12 @@
 -- The rows of users and of payees from their columns, and what working these out asks: no more than closing's tests have shown.
-use Prim.Native.Nat.{ℕ, _+_, _≤_}
+use Prim.Native.Nat.{_+_}
 use mathlib.Core.Path.{_≡_}
 use mathlib.Core.List.{List, _∷_, [], _++_, map}
-use lib.IntN.{ℤ, pos}
-use lib.ListN.{length, replicate}
+use lib.IntN.{ℤ}
+use lib.ListN.{length}
 use Rattle.ints.specs.Bounds.{Words}
 use Rattle.share.specs.Running.{runningShare}
-use Rattle.rules.specs.Lines.{Agent, Lines, agentOf, userOf}
+use Rattle.rules.specs.Lines.{Agent, Lines, userOf}
 use Rattle.rules.specs.Charges.{VDs, newCredits}
 use Rattle.charges.specs.declared.scan.Sums.{Sums}
 use Rattle.charges.specs.declared.month.Bills.{Bills}

@@ -1,13 +1,12 @@
 -- The rows of the points, worked out one after the other and kept as two columns of 1,024 entries.
 use Prim.Native.Nat.{ℕ, suc}
-use mathlib.Core.Path.{_≡_}
 use mathlib.Core.Bool.{cond}
-use mathlib.Core.List.{List, [], _∷_, map}
+use mathlib.Core.List.{List, [], _∷_}
 use lib.IntN.{ℤ, pos}
 use lib.ListN.{take, set, replicate}
 use Rattle.rules.specs.declared.Point.{Point}
 use Rattle.rules.specs.Lists.{sideBySide}
-use Rattle.rules.specs.Lines.{User, userOf, kindOf, badPoint}
+use Rattle.rules.specs.Lines.{User, kindOf, badPoint}
 use Rattle.rules.specs.Charges.{useCharge, overrun}
 use Rattle.statement.specs.declared.points.Charged.{Charged}
 

@@ -3,7 +3,6 @@ ghost use mathlib.Core.Path.{_≡_};
 ghost use lib.IntN.{pos};
 ghost use lib.ListN.{length, replicate};
 ghost use Rattle.rules.specs.Lines.{Lines};
-ghost use Rattle.charges.specs.Month.{firstUses, firstOverruns};
 ghost use Rattle.statement.specs.Statement.{userRows};
 ghost use Rattle.statement.specs.Columns.{UserColumns, userRowsBy, Owed, OwedBy};
 use charges::month::Bills;

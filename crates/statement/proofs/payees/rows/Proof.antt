@@ -1,11 +1,11 @@
 -- After i turns the first i entries are the rows of the first i agents.
-use Prim.Native.Nat.{ℕ, _-_, _<_}
+use Prim.Native.Nat.{_-_}
 use native.Mathlib.Omega.{arith}
-use mathlib.Core.Path.{_≡_, refl, sym, ap, _∙_}
-use mathlib.Core.List.{List, [], _∷_, map}
+use mathlib.Core.Path.{_≡_, refl, sym, _∙_}
+use mathlib.Core.List.{[], map}
 use borrow.Author.Needs.{needs}
 use lib.IntN.{ℤ, pos}
-use lib.ListN.{length, getD, length-map}
+use lib.ListN.{length, getD}
 use mir.Syntax.{w64}
 use mir.Val.{SFits, toZ}
 use mir.Facts.{toZ-ofZ}
@@ -17,7 +17,7 @@ use Rattle.rules.proofs.Cycle.{cycle-within}
 use Rattle.rules.proofs.BoundsAgent.{correction}
 use Rattle.credits.specs.Columns.{line-at}
 use Rattle.statement.specs.Statement.{agentRowsOf}
-use Rattle.statement.proofs.Entries.{length-agentRows, agentRow, agent-row-at}
+use Rattle.statement.proofs.Entries.{length-agentRows, agent-row-at}
 use Rattle.statement.proofs.payees.rows.Statement.{statement}
 use Rattle.statement.proofs.payees.rows.Tie as tie
 

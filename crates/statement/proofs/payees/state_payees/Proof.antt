@@ -7,7 +7,6 @@ use lib.Seq.{length-take-le}
 use mir.Syntax.{w64}
 use mir.Val.{SFits}
 use mir.Facts.{toZ-ofZ}
-use Rattle.statement.specs.Columns.{StatesPayees}
 use Rattle.statement.proofs.payees.state_payees.Statement.{statement}
 use Rattle.statement.proofs.payees.state_payees.Tie as tie
 

@@ -1,6 +1,6 @@
 -- The columns, then the agents' rows, then ONS's after them.
 use native.Mathlib.Omega.{arith}
-use mathlib.Core.Path.{_≡_, sym, ap, _∙_}
+use mathlib.Core.Path.{sym, ap, _∙_}
 use mathlib.Core.List.{List, [], _∷_, _++_}
 use borrow.Author.Needs.{needs}
 use lib.IntN.{ℤ}

@@ -1,7 +1,7 @@
 -- A point in its ranges has both amounts.
 use Prim.Native.Nat.{ℕ}
-use mathlib.Core.Path.{_≡_, sym, ap, ap₂, _∙_}
-use mathlib.Core.Bool.{Bool, true, false, cond}
+use mathlib.Core.Path.{_≡_, sym, ap₂, _∙_}
+use mathlib.Core.Bool.{true, false}
 use mathlib.Core.List.{List, map}
 use borrow.Author.Needs.{needs}
 use lib.IntN.{ℤ}

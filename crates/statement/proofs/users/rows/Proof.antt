@@ -1,10 +1,9 @@
 -- After i turns the first i entries are the rows of the first i users.
-use Prim.Native.Nat.{ℕ, _-_, _<_}
+use Prim.Native.Nat.{ℕ, _-_}
 use native.Mathlib.Omega.{arith}
 use mathlib.Core.Path.{_≡_, sym, _∙_}
-use mathlib.Core.List.{List, []}
+use mathlib.Core.List.{[]}
 use borrow.Author.Needs.{needs, sfits-of}
-use lib.IntN.{ℤ, pos, _-ℤ_}
 use lib.ListN.{length, getD}
 use mir.Syntax.{w64}
 use mir.Val.{SFits}
@@ -12,7 +11,7 @@ use mir.Facts.{toZ-ofZ}
 use Rattle.ints.specs.Bounds.{Word}
 use Rattle.ints.specs.Fill.{Filling, filling-none, filling-long, filling-more, filling-all}
 use Rattle.statement.specs.Statement.{at}
-use Rattle.statement.specs.Columns.{UserColumns, userRowsBy}
+use Rattle.statement.specs.Columns.{userRowsBy}
 use Rattle.statement.proofs.Entries.{length-userRows, user-row-at}
 use Rattle.statement.proofs.users.rows.Statement.{statement}
 use Rattle.statement.proofs.users.rows.Tie as tie

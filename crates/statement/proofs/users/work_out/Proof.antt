@@ -1,5 +1,5 @@
 -- VME, then CPV, then the rows: the laws of a month's amounts say that each step has what it asks, and what all come to.
-use mathlib.Core.Path.{_≡_, sym, _∙_}
+use mathlib.Core.Path.{_≡_, _∙_}
 use borrow.Author.Needs.{needs}
 use mir.Facts.{toZ-ofZ}
 use Rattle.rules.specs.Lines.{Lines}
