@@ -1,6 +1,4 @@
 // The ledger (paper 01, "The ledger"): opening, and closing a month. What is proved of every list of closings stands in proofs/Demand.
-pub mod points;
-
 ghost use mathlib.Core.Path.{_≡_};
 ghost use mathlib.Core.List.{List};
 ghost use lib.IntN.{pos};
@@ -139,6 +137,6 @@ pub fn close(
     ensures { λ r. ⌜ Closed ledger (now (held .entry)) (monthLines month ons (now (agents .entry)) (now (users .entry)) (now (points .entry))) (now (cells .entry)) (now (work .entry)) r (now (held .exit)) (now (cells .exit)) (now (work .exit)) ⌝ }
 {
     let n = points.len();
-    let s = points::scan(points, users);
+    let s = records::scan(points, users);
     finish(ledger, held, month, ons, agents, users, n, s, cells, work)
 }

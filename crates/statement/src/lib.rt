@@ -216,7 +216,7 @@ pub fn state(
     ensures { λ r. ⌜ States ledger (now (held .entry)) (monthLines month ons (now (agents .entry)) (now (users .entry)) (now (points .entry))) (now («point_rows» .entry)) (now («user_rows» .entry)) (now («payee_rows» .entry)) r (now («point_rows» .exit)) (now («user_rows» .exit)) (now («payee_rows» .exit)) ⌝ }
 {
     let n = points.len();
-    let s = ledger::points::scan(points, users);
+    let s = records::scan(points, users);
     let c = points::charge(points, users);
     finish(
         ledger,

@@ -50,11 +50,11 @@ pub fn step(c: Charged, users: &[[i64; 3]], i: usize, p: Point) -> Charged
 pub fn charge(points: &[Point], users: &[[i64; 3]]) -> Charged
     ensures { λ r. ⌜ r ≡ chargedPoints (map userOf (now (users .entry))) (now (points .entry)) ⌝ }
 {
-    let n = ledger::points::scanned_count(points.len());
+    let n = records::scanned_count(points.len());
     let mut c = none_charged();
     let mut i: usize = 0;
     while i < n {
-        let p = ledger::points::point_at(points, i);
+        let p = records::point_at(points, i);
         c = step(c, users, i, p);
         i += 1;
     }

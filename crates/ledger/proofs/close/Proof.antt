@@ -56,10 +56,10 @@ use Rattle.charges.specs.Scan.{scanned, ScanFinds}
 use Rattle.charges.proofs.scan.Sums as S
 use Rattle.charges.proofs.scan.Sums.Laws as S′
 use Rattle.ledger.specs.Promise.{Closed}
-use Rattle.ledger.proofs.points.scan as scan
-use Rattle.ledger.proofs.points.scan.Symbol as scan-def
-use Rattle.ledger.proofs.points.scan.Symbol.{name as #scan}
-use Rattle.ledger.proofs.points.scan.Met as scan-thm
+use Rattle.records.proofs.scan as scan
+use Rattle.records.proofs.scan.Symbol as scan-def
+use Rattle.records.proofs.scan.Symbol.{name as #scan}
+use Rattle.records.proofs.scan.Met as scan-thm
 use Rattle.ledger.proofs.finish as finish
 use Rattle.ledger.proofs.finish.Symbol as finish-def
 use Rattle.ledger.proofs.finish.Symbol.{name as #finish}
@@ -404,5 +404,5 @@ close-spec 𝓤 H 𝓜 𝓖 𝓡 =
     entered 𝓤 H (tripleOf 𝓤 H (𝓖 .A) close.signature (close.spec 𝓤 H (𝓖 .A) (𝓜 .mem) (𝓡 .run)))
     (tables 𝓤 H 𝓜 𝓡 code.env .C) (tables 𝓤 H 𝓜 𝓡 code.env .Λ) #close code.function (code.unfolded 𝓤 H 𝓜 𝓡)
     (close-meets 𝓤 H (𝓖 .A) (givenOf 𝓤 H 𝓜 𝓖) (𝓜 .mem) (𝓡 .run) (tablesOf 𝓤 H 𝓜 (tables 𝓤 H 𝓜 𝓡 code.env))
-    (cited 𝓤 H (ScanC 𝓤 H (𝓖 .A) (𝓜 .mem) (𝓡 .run)) 𝓜 𝓡 code.env #scan scan-def.routine code.calls-ledger·points·scan (scan-thm.met 𝓤 H 𝓜 𝓖 𝓡))
+    (cited 𝓤 H (ScanC 𝓤 H (𝓖 .A) (𝓜 .mem) (𝓡 .run)) 𝓜 𝓡 code.env #scan scan-def.routine code.calls-records·scan (scan-thm.met 𝓤 H 𝓜 𝓖 𝓡))
     (cited 𝓤 H (FinishC 𝓤 H (𝓖 .A) (𝓜 .mem) (𝓡 .run)) 𝓜 𝓡 code.env #finish finish-def.routine code.calls-ledger·finish (finish-thm.met 𝓤 H 𝓜 𝓖 𝓡)))

@@ -65,14 +65,14 @@ use Rattle.statement.proofs.points.step as step
 use Rattle.statement.proofs.points.step.Symbol as step-def
 use Rattle.statement.proofs.points.step.Symbol.{name as #step}
 use Rattle.statement.proofs.points.step.Met as step-thm
-use Rattle.ledger.proofs.points.point_at as point-at
-use Rattle.ledger.proofs.points.point_at.Symbol as point-at-def
-use Rattle.ledger.proofs.points.point_at.Symbol.{name as #point-at}
-use Rattle.ledger.proofs.points.point_at.Met as point-at-thm
-use Rattle.ledger.proofs.points.scanned_count as scanned-count
-use Rattle.ledger.proofs.points.scanned_count.Symbol as scanned-count-def
-use Rattle.ledger.proofs.points.scanned_count.Symbol.{name as #scanned-count}
-use Rattle.ledger.proofs.points.scanned_count.Met as scanned-count-thm
+use Rattle.records.proofs.point_at as point-at
+use Rattle.records.proofs.point_at.Symbol as point-at-def
+use Rattle.records.proofs.point_at.Symbol.{name as #point-at}
+use Rattle.records.proofs.point_at.Met as point-at-thm
+use Rattle.records.proofs.scanned_count as scanned-count
+use Rattle.records.proofs.scanned_count.Symbol as scanned-count-def
+use Rattle.records.proofs.scanned_count.Symbol.{name as #scanned-count}
+use Rattle.records.proofs.scanned_count.Met as scanned-count-thm
 use Rattle.statement.proofs.points.charge.Key.{name as #charge}
 use Rattle.statement.proofs.points.charge as charge
 use Rattle.statement.proofs.points.charge.Statement as stated
@@ -362,7 +362,7 @@ charge-spec 𝓤 H 𝓜 𝓖 𝓡 =
     entered 𝓤 H (tripleOf 𝓤 H (𝓖 .A) charge.signature (charge.spec 𝓤 H (𝓖 .A) (𝓜 .mem) (𝓡 .run)))
     (tables 𝓤 H 𝓜 𝓡 code.env .C) (tables 𝓤 H 𝓜 𝓡 code.env .Λ) #charge code.function (code.unfolded 𝓤 H 𝓜 𝓡)
     (charge-meets 𝓤 H (𝓖 .A) (givenOf 𝓤 H 𝓜 𝓖) (𝓜 .mem) (𝓡 .run) (tablesOf 𝓤 H 𝓜 (tables 𝓤 H 𝓜 𝓡 code.env))
-    (cited 𝓤 H (Count 𝓤 H (𝓖 .A) (𝓜 .mem) (𝓡 .run)) 𝓜 𝓡 code.env #scanned-count scanned-count-def.routine code.calls-ledger·points·scanned-count (scanned-count-thm.met 𝓤 H 𝓜 𝓖 𝓡))
+    (cited 𝓤 H (Count 𝓤 H (𝓖 .A) (𝓜 .mem) (𝓡 .run)) 𝓜 𝓡 code.env #scanned-count scanned-count-def.routine code.calls-records·scanned-count (scanned-count-thm.met 𝓤 H 𝓜 𝓖 𝓡))
     (cited 𝓤 H (None 𝓤 H (𝓖 .A) (𝓜 .mem) (𝓡 .run)) 𝓜 𝓡 code.env #none-charged none-charged-def.routine code.calls-statement·points·none-charged (none-charged-thm.met 𝓤 H 𝓜 𝓖 𝓡))
-    (cited 𝓤 H (PointAt 𝓤 H (𝓖 .A) (𝓜 .mem) (𝓡 .run)) 𝓜 𝓡 code.env #point-at point-at-def.routine code.calls-ledger·points·point-at (point-at-thm.met 𝓤 H 𝓜 𝓖 𝓡))
+    (cited 𝓤 H (PointAt 𝓤 H (𝓖 .A) (𝓜 .mem) (𝓡 .run)) 𝓜 𝓡 code.env #point-at point-at-def.routine code.calls-records·point-at (point-at-thm.met 𝓤 H 𝓜 𝓖 𝓡))
     (cited 𝓤 H (StepC 𝓤 H (𝓖 .A) (𝓜 .mem) (𝓡 .run)) 𝓜 𝓡 code.env #step step-def.routine code.calls-statement·points·step (step-thm.met 𝓤 H 𝓜 𝓖 𝓡)))

@@ -65,19 +65,19 @@ use Rattle.charges.proofs.scan.step as step
 use Rattle.charges.proofs.scan.step.Symbol as step-def
 use Rattle.charges.proofs.scan.step.Symbol.{name as #step}
 use Rattle.charges.proofs.scan.step.Met as step-thm
-use Rattle.ledger.proofs.points.point_at as point-at
-use Rattle.ledger.proofs.points.point_at.Symbol as point-at-def
-use Rattle.ledger.proofs.points.point_at.Symbol.{name as #point-at}
-use Rattle.ledger.proofs.points.point_at.Met as point-at-thm
-use Rattle.ledger.proofs.points.scanned_count as scanned-count
-use Rattle.ledger.proofs.points.scanned_count.Symbol as scanned-count-def
-use Rattle.ledger.proofs.points.scanned_count.Symbol.{name as #scanned-count}
-use Rattle.ledger.proofs.points.scanned_count.Met as scanned-count-thm
-use Rattle.ledger.proofs.points.scan.Key.{name as #scan}
-use Rattle.ledger.proofs.points.scan as scan
-use Rattle.ledger.proofs.points.scan.Statement as stated
-use Rattle.ledger.proofs.points.scan.Code as code
-use Rattle.ledger.proofs.points.scan.Code.Mir as mir
+use Rattle.records.proofs.point_at as point-at
+use Rattle.records.proofs.point_at.Symbol as point-at-def
+use Rattle.records.proofs.point_at.Symbol.{name as #point-at}
+use Rattle.records.proofs.point_at.Met as point-at-thm
+use Rattle.records.proofs.scanned_count as scanned-count
+use Rattle.records.proofs.scanned_count.Symbol as scanned-count-def
+use Rattle.records.proofs.scanned_count.Symbol.{name as #scanned-count}
+use Rattle.records.proofs.scanned_count.Met as scanned-count-thm
+use Rattle.records.proofs.scan.Key.{name as #scan}
+use Rattle.records.proofs.scan as scan
+use Rattle.records.proofs.scan.Statement as stated
+use Rattle.records.proofs.scan.Code as code
+use Rattle.records.proofs.scan.Code.Mir as mir
 
 -- a point, a user line, what a scan has found
 abbrev Rp : RattleType
@@ -365,7 +365,7 @@ scan-spec 𝓤 H 𝓜 𝓖 𝓡 =
     entered 𝓤 H (tripleOf 𝓤 H (𝓖 .A) scan.signature (scan.spec 𝓤 H (𝓖 .A) (𝓜 .mem) (𝓡 .run)))
     (tables 𝓤 H 𝓜 𝓡 code.env .C) (tables 𝓤 H 𝓜 𝓡 code.env .Λ) #scan code.function (code.unfolded 𝓤 H 𝓜 𝓡)
     (scan-meets 𝓤 H (𝓖 .A) (givenOf 𝓤 H 𝓜 𝓖) (𝓜 .mem) (𝓡 .run) (tablesOf 𝓤 H 𝓜 (tables 𝓤 H 𝓜 𝓡 code.env))
-    (cited 𝓤 H (Count 𝓤 H (𝓖 .A) (𝓜 .mem) (𝓡 .run)) 𝓜 𝓡 code.env #scanned-count scanned-count-def.routine code.calls-ledger·points·scanned-count (scanned-count-thm.met 𝓤 H 𝓜 𝓖 𝓡))
+    (cited 𝓤 H (Count 𝓤 H (𝓖 .A) (𝓜 .mem) (𝓡 .run)) 𝓜 𝓡 code.env #scanned-count scanned-count-def.routine code.calls-records·scanned-count (scanned-count-thm.met 𝓤 H 𝓜 𝓖 𝓡))
     (cited 𝓤 H (None 𝓤 H (𝓖 .A) (𝓜 .mem) (𝓡 .run)) 𝓜 𝓡 code.env #no-points no-points-def.routine code.calls-charges·scan·no-points (no-points-thm.met 𝓤 H 𝓜 𝓖 𝓡))
-    (cited 𝓤 H (PointAt 𝓤 H (𝓖 .A) (𝓜 .mem) (𝓡 .run)) 𝓜 𝓡 code.env #point-at point-at-def.routine code.calls-ledger·points·point-at (point-at-thm.met 𝓤 H 𝓜 𝓖 𝓡))
+    (cited 𝓤 H (PointAt 𝓤 H (𝓖 .A) (𝓜 .mem) (𝓡 .run)) 𝓜 𝓡 code.env #point-at point-at-def.routine code.calls-records·point-at (point-at-thm.met 𝓤 H 𝓜 𝓖 𝓡))
     (cited 𝓤 H (StepC 𝓤 H (𝓖 .A) (𝓜 .mem) (𝓡 .run)) 𝓜 𝓡 code.env #step step-def.routine code.calls-charges·scan·step (step-thm.met 𝓤 H 𝓜 𝓖 𝓡)))

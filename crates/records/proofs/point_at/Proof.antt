@@ -40,10 +40,10 @@ use Rattle.rules.specs.Lines.{pointOf}
 use Rattle.rules.specs.declared.Point.{Point}
 use Rattle.rules.proofs.Point as T
 use Rattle.rules.proofs.Point.Laws as T′
-use Rattle.ledger.proofs.points.point_at.Key.{name as #point-at}
-use Rattle.ledger.proofs.points.point_at as point-at
-use Rattle.ledger.proofs.points.point_at.Statement as stated
-use Rattle.ledger.proofs.points.point_at.Code as code
+use Rattle.records.proofs.point_at.Key.{name as #point-at}
+use Rattle.records.proofs.point_at as point-at
+use Rattle.records.proofs.point_at.Statement as stated
+use Rattle.records.proofs.point_at.Code as code
 
 abbrev R : RattleType
 R = T.the-row
