@@ -96,28 +96,7 @@ abbrev Ro : RattleType
 Ro = O.the-row
 
 abbrev stayed : Stays (close.ended .signature .params) (close.ended .kept)
-stayed = (
-  stay-none (λ _. Rg) yes,
-  (
-    gave-slice (0 ∷ []) tt (plain (λ _. i64)),
-    (
-      stay-none (λ _. i64) yes,
-      (
-        stay-none (λ _. i64) yes,
-        (
-          stay-none-slice (1 ∷ []) tt slotA yes,
-          (
-            stay-none-slice (2 ∷ []) tt slotU yes,
-            (
-              stay-none-slice (3 ∷ []) tt (plain (λ _. Rp)) yes,
-              (gave-slice (4 ∷ []) tt (plain (λ _. i64)), (gave-slice (5 ∷ []) tt (plain (λ _. u64)), tt)),
-            ),
-          ),
-        ),
-      ),
-    ),
-  ),
-)
+stayed = (stay-none (λ _. Rg) yes, (gave-slice (0 ∷ []) tt (plain (λ _. i64)), (stay-none (λ _. i64) yes, (stay-none (λ _. i64) yes, (stay-none-slice (1 ∷ []) tt slotA yes, (stay-none-slice (2 ∷ []) tt slotU yes, (stay-none-slice (3 ∷ []) tt (plain (λ _. Rp)) yes, (gave-slice (4 ∷ []) tt (plain (λ _. i64)), (gave-slice (5 ∷ []) tt (plain (λ _. u64)), tt)))))))))
 
 module _ {M : Type 1} (𝓤 : URA M) (H : Heap 𝓤) (A : Atoms 𝓤) (mem : Memory → SProp 𝓤) (run : Routine → Fun 𝓤) where
   -- the contracts that the proof cites
@@ -346,25 +325,7 @@ module _ {M : Type 1} (𝓤 : URA M) (H : Heap 𝓤) (A : Atoms 𝓤) (W : Given
       → Walks 𝓤 H A close.ended stayed (WpFn 𝓤 H C Λ code.function) (close.clauses 𝓤 H A mem run)
   close-walks C Λ fm known-scan known-finish = walked 𝓤 H A close.ended stayed (close.clauses 𝓤 H A mem run) (WpFn 𝓤 H C Λ code.function)
       (λ κs. (LL.vals G.the-type G′.the-laws, (slice-vals, (sint-vals w64, (sint-vals w64, (slice-vals, (slice-vals, (slice-vals, (slice-vals, (slice-vals, tt))))))))))
-      (λ κs. (
-        LL.tells G.the-type G′.the-laws,
-        (
-          mut-slice-tells (named 0) (κs .0) i64,
-          (
-            sint-tells w64,
-            (
-              sint-tells w64,
-              (
-                shr-slice-tells (named 1) (κs .1 .0) Ra,
-                (
-                  shr-slice-tells (named 2) (κs .1 .1 .0) Ru,
-                  (shr-slice-tells (named 3) (κs .1 .1 .1 .0) Rp, (mut-slice-tells (named 4) (κs .1 .1 .1 .1 .0) i64, (mut-slice-tells (named 5) (κs .1 .1 .1 .1 .1 .0) u64, tt))),
-                ),
-              ),
-            ),
-          ),
-        ),
-      ))
+      (λ κs. (LL.tells G.the-type G′.the-laws, (mut-slice-tells (named 0) (κs .0) i64, (sint-tells w64, (sint-tells w64, (shr-slice-tells (named 1) (κs .1 .0) Ra, (shr-slice-tells (named 2) (κs .1 .1 .0) Ru, (shr-slice-tells (named 3) (κs .1 .1 .1 .0) Rp, (mut-slice-tells (named 4) (κs .1 .1 .1 .1 .0) i64, (mut-slice-tells (named 5) (κs .1 .1 .1 .1 .1 .0) u64, tt))))))))))
       (λ κs qs bounds a h are. via 𝓤 _ (fst∗ 𝓤 _ (emp 𝓤))
       (walk 𝓤 H A W mem run (κs .0) (κs .1 .0) (κs .1 .1 .0) (κs .1 .1 .1 .0) (κs .1 .1 .1 .1 .0) (κs .1 .1 .1 .1 .1 .0) (qs .0) (qs .1 .0) (qs .1 .1 .0) (qs .1 .1 .1 .0) (qs .1 .1 .1 .1 .0) (qs .1 .1 .1 .1 .1 .0)
       (a .0) (a .1 .0) (a .1 .1 .0) (a .1 .1 .1 .0) (a .1 .1 .1 .1 .0) (a .1 .1 .1 .1 .1 .0) (a .1 .1 .1 .1 .1 .1 .0) (a .1 .1 .1 .1 .1 .1 .1 .0) (a .1 .1 .1 .1 .1 .1 .1 .1 .0)
@@ -374,28 +335,7 @@ module _ {M : Type 1} (𝓤 : URA M) (H : Heap 𝓤) (A : Atoms 𝓤) (W : Given
 close-meets : {M : Type 1} (𝓤 : URA M) (H : Heap 𝓤) (A : Atoms 𝓤) (W : Given 𝓤 H A) (mem : Memory → SProp 𝓤) (run : Routine → Fun 𝓤) (𝓣 : Tables 𝓤 H)
     → Triple 𝓤 (𝓣 .C #scan) (ScanC 𝓤 H A mem run) → Triple 𝓤 (𝓣 .C #finish) (FinishC 𝓤 H A mem run)
     → Meets 𝓤 H A close.signature (WpFn 𝓤 H (𝓣 .C) (𝓣 .Λ) code.function) (close.spec 𝓤 H A mem run)
-close-meets 𝓤 H A W mem run 𝓣 known-scan known-finish = walk-meets 𝓤 H A close.ended stayed W (
-  goes-none 𝓤 H A W 6 (λ _. Rg) yes (λ κs x f. refl),
-  (
-    goes-gave-slice 𝓤 H A W 6 0 tt (plain (λ _. i64)),
-    (
-      goes-none 𝓤 H A W 6 (λ _. i64) yes (λ κs x f. refl),
-      (
-        goes-none 𝓤 H A W 6 (λ _. i64) yes (λ κs x f. refl),
-        (
-          goes-none-slice 𝓤 H A W 6 (1 ∷ []) tt slotA yes,
-          (
-            goes-none-slice 𝓤 H A W 6 (2 ∷ []) tt slotU yes,
-            (
-              goes-none-slice 𝓤 H A W 6 (3 ∷ []) tt (plain (λ _. Rp)) yes,
-              (goes-gave-slice 𝓤 H A W 6 4 tt (plain (λ _. i64)), (goes-gave-slice 𝓤 H A W 6 5 tt (plain (λ _. u64)), tt)),
-            ),
-          ),
-        ),
-      ),
-    ),
-  ),
-) (close.clauses 𝓤 H A mem run) (WpFn 𝓤 H (𝓣 .C) (𝓣 .Λ) code.function) (WpFn-mono 𝓤 H (W .laws) 𝓣 code.function)
+close-meets 𝓤 H A W mem run 𝓣 known-scan known-finish = walk-meets 𝓤 H A close.ended stayed W (goes-none 𝓤 H A W 6 (λ _. Rg) yes (λ κs x f. refl), (goes-gave-slice 𝓤 H A W 6 0 tt (plain (λ _. i64)), (goes-none 𝓤 H A W 6 (λ _. i64) yes (λ κs x f. refl), (goes-none 𝓤 H A W 6 (λ _. i64) yes (λ κs x f. refl), (goes-none-slice 𝓤 H A W 6 (1 ∷ []) tt slotA yes, (goes-none-slice 𝓤 H A W 6 (2 ∷ []) tt slotU yes, (goes-none-slice 𝓤 H A W 6 (3 ∷ []) tt (plain (λ _. Rp)) yes, (goes-gave-slice 𝓤 H A W 6 4 tt (plain (λ _. i64)), (goes-gave-slice 𝓤 H A W 6 5 tt (plain (λ _. u64)), tt))))))))) (close.clauses 𝓤 H A mem run) (WpFn 𝓤 H (𝓣 .C) (𝓣 .Λ) code.function) (WpFn-mono 𝓤 H (W .laws) 𝓣 code.function)
     (close-walks 𝓤 H A W mem run (𝓣 .C) (𝓣 .Λ) (fmOf 𝓤 H (W .laws) 𝓣) known-scan known-finish)
 
 pub close-spec : {M : Type 1} → stated.statement M
