@@ -1,0 +1,31 @@
+// Standard input, read to its end (paper 01: "input over 32,768 bytes" is refused).
+use libc::STDIN_FILENO;
+
+// One byte more than the program takes, so that an input that is too long fills it.
+pub fn buffer() -> [u8; 32769] {
+    [0u8; 32769]
+}
+
+// The first bytes of the buffer are the whole input; or it filled the buffer; or a read failed, which was told.
+pub enum Input {
+    Text(usize),
+    Over,
+    Failed,
+}
+
+pub fn read_all(text: &mut [u8]) -> Input {
+    let most = text.len();
+    let mut n = 0;
+    while n < most {
+        let got = libc::read(STDIN_FILENO, &mut text[n..]);
+        if got < 0 {
+            os::fail(b"settle: standard input");
+            return Input::Failed;
+        }
+        if got == 0 {
+            return Input::Text(n);
+        }
+        n += got as usize;
+    }
+    Input::Over
+}
