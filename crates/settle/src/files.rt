@@ -1,13 +1,15 @@
 // File after file (paper 01, "The month file"): the first opens the ledger, and each is closed. A refusal by reading or opening ends the
 // run; a refused closing does not, and leaves the ledger as it was.
+ghost use lib.ListN.{length};
+ghost use Rattle.settle.specs.Runs.{Buffers, Lies, GoesTo, GoesOn};
 use crate::month;
-use crate::month::Month;
 use crate::output;
 use monthfile::reading::Header;
 use monthfile::reading::Reading;
 use rules::Answer;
 use rules::Ledger;
 use rules::Outcome;
+use rules::Point;
 
 // The ledger, once the first file has opened it.
 pub enum Books {
@@ -33,17 +35,19 @@ fn opened(books: Books, users: usize, agents: usize, held: &mut [i64]) -> Outcom
 
 fn closed(
     h: Header,
-    m: Month,
+    points: [Point; 256],
     ledger: Ledger,
     agents: &[[i64; 7]],
     users: &[[i64; 3]],
     held: &mut [i64],
     cells: &mut [i64],
     work: &mut [u64],
-) -> Step {
+) -> Step
+    requires { ⌜ Lies h (now agents) (now users) (now held) (now cells) ⌝ }
+    ensures { λ r. ⌜ GoesTo (h .next) r ⌝ }
+{
     let a = h.agents;
     let u = h.users;
-    let points = m.points;
     let o = month::close(
         ledger,
         held,
@@ -61,8 +65,9 @@ fn closed(
         Answer::Accepted => output::month(h.month, a, u, cells, held),
         Answer::Refused(number, place) => output::refused(number, place),
     };
+    let after = o.ledger;
     if written {
-        return Step::Next(h.next, o.ledger);
+        return Step::Next(h.next, after);
     }
     Step::Over
 }
@@ -76,8 +81,11 @@ fn file(
     held: &mut [i64],
     cells: &mut [i64],
     work: &mut [u64],
-) -> Step {
-    let m = month::read(text, at, agents, users);
+) -> Step
+    requires { ⌜ Buffers (now agents) (now users) (now held) (now cells) ⌝ }
+    ensures { λ r. ⌜ GoesOn at (length (now (text .entry))) r ⌝ }
+{
+    let m = month::read(text, at, agents, users, month::no_points());
     let reading = m.reading;
     match reading {
         Reading::Refused(number, place) => {
@@ -92,7 +100,11 @@ fn file(
                     output::refused(number, place);
                     Step::Over
                 }
-                Answer::Accepted => closed(h, m, o.ledger, agents, users, held, cells, work),
+                Answer::Accepted => {
+                    let points = m.points;
+                    let ledger = o.ledger;
+                    closed(h, points, ledger, agents, users, held, cells, work)
+                }
             }
         }
     }
@@ -105,7 +117,9 @@ fn files(
     held: &mut [i64],
     cells: &mut [i64],
     work: &mut [u64],
-) {
+)
+    requires { ⌜ Buffers (now agents) (now users) (now held) (now cells) ⌝ }
+{
     let mut at = 0;
     let mut books = Books::Shut;
     loop {

@@ -1,8 +1,13 @@
 // Standard input, read to its end (paper 01: "input over 32,768 bytes" is refused).
+ghost use mathlib.Core.Path.{_≡_};
+ghost use lib.ListN.{length};
+ghost use Rattle.settle.specs.Runs.{InputWithin};
 use libc::STDIN_FILENO;
 
 // One byte more than the program takes, so that an input that is too long fills it.
-pub fn buffer() -> [u8; 32769] {
+pub fn buffer() -> [u8; 32769]
+    ensures { λ r. ⌜ 32769 ≡ length r ⌝ }
+{
     [0u8; 32769]
 }
 
@@ -13,7 +18,9 @@ pub enum Input {
     Failed,
 }
 
-pub fn read_all(text: &mut [u8]) -> Input {
+pub fn read_all(text: &mut [u8]) -> Input
+    ensures { λ r. ⌜ InputWithin (length (now (text .exit))) r ⌝ }
+{
     let most = text.len();
     let mut n = 0;
     while n < most {
@@ -22,10 +29,11 @@ pub fn read_all(text: &mut [u8]) -> Input {
             os::fail(b"settle: standard input");
             return Input::Failed;
         }
-        if got == 0 {
+        let more = io::count(got, &text[n..]);
+        if more == 0 {
             return Input::Text(n);
         }
-        n += got as usize;
+        n += more;
     }
     Input::Over
 }

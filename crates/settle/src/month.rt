@@ -1,4 +1,10 @@
 // One month, read and closed with its points in an array of records. Only these two functions lend a slice of points.
+ghost use mathlib.Core.Path.{_≡_};
+ghost use Prim.Native.Nat.{_≤_};
+ghost use lib.ListN.{length, take};
+ghost use Rattle.rules.specs.Lines.{monthLines};
+ghost use Rattle.rules.specs.Calls.{Closes};
+ghost use Rattle.monthfile.specs.Reads.{Reads};
 use monthfile::reading::Reading;
 use rules::Ledger;
 use rules::Outcome;
@@ -24,14 +30,28 @@ fn no_point() -> Point {
     }
 }
 
-pub fn no_points() -> [Point; 256] {
+pub fn no_points() -> [Point; 256]
+    ensures { λ r. ⌜ 256 ≡ length r ⌝ }
+{
     [no_point(); 256]
 }
 
-pub fn read(text: &[u8], at: usize, agents: &mut [[i64; 7]], users: &mut [[i64; 3]]) -> Month {
-    let mut points = no_points();
-    let reading = monthfile::points::read_at(text, at, agents, users, &mut points);
-    Month { reading, points }
+// Reads the file at a place; the points are those handed in, but for the ones that it wrote.
+pub fn read(
+    text: &[u8],
+    at: usize,
+    agents: &mut [[i64; 7]],
+    users: &mut [[i64; 3]],
+    points: [Point; 256],
+) -> Month
+    ensures { λ r. ⌜ Reads (now (text .entry)) at (now (agents .entry)) (now (users .entry)) points (now (agents .exit)) (now (users .exit)) (r .points) (r .reading) ⌝ }
+{
+    let mut written = points;
+    let reading = monthfile::points::read_at(text, at, agents, users, &mut written);
+    Month {
+        reading,
+        points: written,
+    }
 }
 
 // Closes a month with the first n of these points.
@@ -46,7 +66,10 @@ pub fn close(
     n: usize,
     cells: &mut [i64],
     work: &mut [u64],
-) -> Outcome {
+) -> Outcome
+    requires { ⌜ n ≤ 256 ⌝ }
+    ensures { λ r. ⌜ Closes ledger (now (held .entry)) (monthLines month ons (now (agents .entry)) (now (users .entry)) (take n points)) (now (cells .entry)) (now (work .entry)) r (now (held .exit)) (now (cells .exit)) (now (work .exit)) ⌝ }
+{
     ledger::close(
         ledger,
         held,

@@ -1,5 +1,8 @@
 // The lines that are printed (paper 01, "The month file"). Each is put together before it is written, so that none is written in part
 // unless a write fails; that is told, and answered by false.
+ghost use mathlib.Core.Path.{_≡_};
+ghost use Prim.Native.Nat.{_+_, _*_, _≤_};
+ghost use lib.ListN.{length};
 use libc::STDOUT_FILENO;
 
 // The longest line has four numbers of at most 20 digits each, a sign, three commas and its end.
@@ -21,7 +24,10 @@ fn write(text: &[u8]) -> bool {
 }
 
 // Each of these puts its text at the place `at` of a line, and answers the place after it.
-fn put(line: &mut [u8], at: usize, text: &[u8]) -> usize {
+fn put(line: &mut [u8], at: usize, text: &[u8]) -> usize
+    requires { ⌜ at + length (now text) ≤ length (now line) ⌝ }
+    ensures { λ r. ⌜ r ≡ at + length (now (text .entry)) ⌝ }
+{
     let n = text.len();
     let mut i = 0;
     while i < n {
@@ -31,21 +37,38 @@ fn put(line: &mut [u8], at: usize, text: &[u8]) -> usize {
     at + n
 }
 
-fn put_number(line: &mut [u8], at: usize, n: u64) -> usize {
+fn put_number(line: &mut [u8], at: usize, n: u64) -> usize
+    requires { ⌜ at + 20 ≤ length (now line) ⌝ }
+    ensures { λ r. ⌜ r ≤ at + 20 ⌝ }
+{
     let mut digits = [0u8; 20];
     let k = io::decimal(n, &mut digits);
     put(line, at, &digits[..k])
 }
 
-fn put_amount(line: &mut [u8], at: usize, x: i64) -> usize {
+// An amount without its sign, also that of the least.
+fn size(x: i64) -> u64 {
     if x < 0 {
-        let i = put(line, at, b"-");
-        return put_number(line, i, (-(x + 1)) as u64 + 1);
+        return (-(x + 1)) as u64 + 1;
     }
-    put_number(line, at, x as u64)
+    x as u64
 }
 
-fn put_payee(line: &mut [u8], at: usize, payee: Payee) -> usize {
+fn put_amount(line: &mut [u8], at: usize, x: i64) -> usize
+    requires { ⌜ at + 21 ≤ length (now line) ⌝ }
+    ensures { λ r. ⌜ r ≤ at + 21 ⌝ }
+{
+    if x < 0 {
+        let i = put(line, at, b"-");
+        return put_number(line, i, size(x));
+    }
+    put_number(line, at, size(x))
+}
+
+fn put_payee(line: &mut [u8], at: usize, payee: Payee) -> usize
+    requires { ⌜ at + 20 ≤ length (now line) ⌝ }
+    ensures { λ r. ⌜ r ≤ at + 20 ⌝ }
+{
     match payee {
         Payee::Agent(k) => put_number(line, at, k),
         Payee::Ons => put(line, at, b"ons"),
@@ -94,25 +117,23 @@ fn row(month: i64, payee: Payee, cents: &[i64]) -> bool {
     true
 }
 
-// The payees are the agents in order and then ONS.
-fn payee_of(i: usize, agents: usize) -> Payee {
-    if i < agents {
-        Payee::Agent(i as u64 + 1)
-    } else {
-        Payee::Ons
-    }
-}
-
 // A closed month: its cells, payee by payee, and the new held credits.
-pub fn month(month: i64, agents: usize, users: usize, cells: &[i64], held: &[i64]) -> bool {
+pub fn month(month: i64, agents: usize, users: usize, cells: &[i64], held: &[i64]) -> bool
+    requires { ⌜ ((agents + 1) * users ≤ length (now cells)) × (users ≤ length (now held)) ⌝ }
+{
     let mut i = 0;
-    while i <= agents {
+    while i < agents {
         let from = i * users;
         let to = from + users;
-        if !row(month, payee_of(i, agents), &cells[from..to]) {
+        if !row(month, Payee::Agent(i as u64 + 1), &cells[from..to]) {
             return false;
         }
         i += 1;
+    }
+    let from = agents * users;
+    let to = from + users;
+    if !row(month, Payee::Ons, &cells[from..to]) {
+        return false;
     }
     row(month, Payee::Held, &held[..users])
 }

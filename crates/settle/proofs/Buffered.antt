@@ -1,0 +1,104 @@
+-- An accepted file lies in the buffers that it was read into, and the next one begins further on. Assumes nothing.
+use Prim.Native.Nat.{ℕ, _+_, _*_, _≤_, _<_}
+use native.Mathlib.Nat.{mul-le-mul}
+use native.Mathlib.Omega.{arith}
+use mathlib.Core.Path.{_≡_, refl, sym, ap, _∙_, subst}
+use mathlib.Core.List.{List}
+use lib.IntN.{ℤ}
+use lib.ListN.{length}
+use Rattle.format.specs.Blocks.{slices}
+use Rattle.format.specs.Grammar.{fits-slices}
+use Rattle.format.specs.Reading.{reading, Answer, accepted, refused, Says}
+use Rattle.format.proofs.Answers.{reads}
+use Rattle.format.proofs.FileByFile.{next-within}
+use Rattle.rules.specs.declared.Ledger.{Ledger}
+use Rattle.rules.specs.declared.Point.{Point}
+use Rattle.monthfile.specs.Reads.{answered, Reads}
+use Rattle.monthfile.specs.declared.reading.Header.{Header}
+use Rattle.monthfile.specs.declared.reading.Reading.{Reading}
+use Rattle.monthfile.specs.declared.reading.Reading.the-variants.{Accepted, Refused}
+use Rattle.settle.specs.Runs.{InputWithin, Buffers, Lies, GoesTo, GoesOn}
+use Rattle.settle.specs.declared.input.Input.{Input}
+use Rattle.settle.specs.declared.input.Input.the-variants.{Text}
+use Rattle.settle.specs.declared.files.Step.{Step}
+use Rattle.settle.specs.declared.files.Step.the-variants.{Next, Over}
+
+-- what is known of an accepted file: its counts are those of its lines, of which the slices took all, and it has some bytes
+pub record Counted (a u p from most : ℕ) (h : Header) : Type 0 where
+  pub agents : h .agents ≤ a
+  pub users : h .users ≤ u
+  pub points : h .points ≤ p
+  pub further : from < h .next
+  pub within : h .next ≤ most
+
+headerOr : Header → Reading → Header
+headerOr h (Accepted k) = k
+headerOr h (Refused n p) = h
+
+module _ (a u p : ℕ) (t : List ℕ) (from : ℕ) (h : Header) where
+  counted : Accepted h ≡ answered (reading (slices a u p) t from) → Counted a u p from (length t) h
+  unfolding headerOr
+  counted e = by (reading (slices a u p) t from) refl (reads a u p t from) e
+    where
+      by : (y : Answer) → reading (slices a u p) t from ≡ y → Says a u p t from y → Accepted h ≡ answered y → Counted a u p from (length t) h
+      by (accepted f next) q s e =
+          let k = ap (headerOr h) e in
+          let few = fits-slices a u p f .0 (s .fits) in
+          let on = next-within a u p t from next f q in
+          record {
+            agents = omega (arith, ap (λ (h : Header). h .agents) k, few .fewAgents);
+            users = omega (arith, ap (λ (h : Header). h .users) k, few .fewUsers);
+            points = omega (arith, ap (λ (h : Header). h .points) k, few .fewPoints);
+            further = omega (arith, ap (λ (h : Header). h .next) k, on .0);
+            within = omega (arith, ap (λ (h : Header). h .next) k, on .1);
+          }
+      by (refused n q) _ s e = let z : _≡_ {A = ℕ} 0 1 = cc in omega arith
+
+module _
+    (t : List ℕ) (from : ℕ)
+    (ags us ags′ us′ : List (List ℤ)) (ps ps′ : List Point)
+    (r : Reading) (x : Reads t from ags us ps ags′ us′ ps′ r)
+    (h : Header) (e : r ≡ Accepted h) (n : 256 ≡ length ps) where
+  pub file-counts : Counted (length ags) (length us) 256 from (length t) h
+  file-counts = rw n (counted (length ags) (length us) (length ps) t from h (sym e ∙ x .answer))
+
+pub same-buffers :
+    {ags us ags′ us′ : List (List ℤ)} {held cells held′ cells′ : List ℤ}
+    → Buffers ags us held cells
+    → length ags′ ≡ length ags
+    → length us′ ≡ length us
+    → length held′ ≡ length held
+    → length cells′ ≡ length cells
+    → Buffers ags′ us′ held′ cells′
+same-buffers b e f g k = record { credits = rw (f, g) (b .credits); table = rw (e, f, k) (b .table) }
+
+pub lies :
+    {a u from most : ℕ} {h : Header} {ags us : List (List ℤ)} {held cells : List ℤ}
+    → Counted a u 256 from most h
+    → Buffers ags us held cells
+    → length ags ≡ a
+    → length us ≡ u
+    → Lies h ags us held cells
+lies {h = h} {ags = ags} {us = us} c b e f =
+    record {
+      agents-in = omega (arith, c .agents);
+      users-in = omega (arith, c .users);
+      points-in = c .points;
+      credits = omega (arith, c .users, b .credits);
+      table =
+          let i : h .agents + 1 ≤ length ags + 1 = omega (arith, c .agents) in
+          let j : h .users ≤ length us = omega (arith, c .users) in
+          omega (arith, mul-le-mul i j, b .table);
+    }
+
+-- the run goes on after the file, which is further on
+pub goes-on : {from most next : ℕ} (s : Step) → GoesTo next s → from < next → next ≤ most → GoesOn from most s
+goes-on (Next n l) e i j = (omega arith, omega arith)
+goes-on Over e i j = tt
+
+pub stepped : {from most n : ℕ} {l : Ledger} {s : Step} → GoesOn from most s → s ≡ Next n l → (from < n) × (n ≤ most)
+stepped {from} {most} g e = subst (GoesOn from most) e g
+
+-- a whole input lies within its buffer
+pub input-within : {most n : ℕ} {i : Input} → InputWithin most i → i ≡ Text n → n ≤ most
+input-within {most} g e = subst (InputWithin most) e g

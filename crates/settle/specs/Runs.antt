@@ -1,0 +1,40 @@
+-- What the parts of the program tell each other: lengths and places. Assumes nothing.
+use Prim.Native.Nat.{ℕ, _+_, _*_, _≤_, _<_}
+use mathlib.Core.Path.{_≡_}
+use mathlib.Core.List.{List}
+use lib.ListN.{length}
+use lib.IntN.{ℤ}
+use Rattle.monthfile.specs.declared.reading.Header.{Header}
+use Rattle.settle.specs.declared.input.Input.{Input}
+use Rattle.settle.specs.declared.input.Input.the-variants.{Text, Over, Failed}
+use Rattle.settle.specs.declared.files.Step.{Step}
+use Rattle.settle.specs.declared.files.Step.the-variants as Steps
+
+-- an input that was read whole lies within its buffer
+abbrev pub InputWithin : ℕ → Input → Type 0
+InputWithin most (Text n) = n ≤ most
+InputWithin most Over = Unit {0}
+InputWithin most Failed = Unit {0}
+
+-- the buffers go together: a held credit for each user, a cell for each payee and user
+pub record Buffers (agents users : List (List ℤ)) (held cells : List ℤ) : Type 0 where
+  pub credits : length users ≤ length held
+  pub table : (length agents + 1) * length users ≤ length cells
+
+-- a file's lines lie in the buffers
+pub record Lies (h : Header) (agents users : List (List ℤ)) (held cells : List ℤ) : Type 0 where
+  pub agents-in : h .agents ≤ length agents
+  pub users-in : h .users ≤ length users
+  pub points-in : h .points ≤ 256
+  pub credits : h .users ≤ length held
+  pub table : (h .agents + 1) * h .users ≤ length cells
+
+-- the run goes on there, or is over
+abbrev pub GoesTo : ℕ → Step → Type 0
+GoesTo next (Steps.Next n l) = n ≡ next
+GoesTo next Steps.Over = Unit {0}
+
+-- the run goes on at a later place of the text, or is over
+abbrev pub GoesOn : ℕ → ℕ → Step → Type 0
+GoesOn from most (Steps.Next n l) = (from < n) × (n ≤ most)
+GoesOn from most Steps.Over = Unit {0}
