@@ -97,7 +97,7 @@ returns-3 : tie.Need-returns-3
 returns-3 c =
     let d = c .before .before .before .before in
     let k = counts (d .before) in
-    goes-on _ (d .closed .ensures) (k .further) (k .within)
+    goes-on (d .closed .result) (d .closed .ensures) (k .further) (k .within)
 
 pub file-spec : {M : Type 1} → statement M
 file-spec =
