@@ -1,21 +1,20 @@
 -- What is found of a closing whose points have been scanned: paper 01's refusals, group by group in their order, and the amounts.
 use Prim.Native.Nat.{ℕ, _≤_}
 use mathlib.Core.Path.{_≡_}
-use mathlib.Core.Bool.{false}
 use mathlib.Core.List.{List, map}
 use lib.IntN.{ℤ}
 use lib.ListN.{length, take}
 use Rattle.rules.specs.declared.Answer.{Answer}
 use Rattle.rules.specs.declared.Ledger.{Ledger}
 use Rattle.rules.specs.declared.Point.{Point}
-use Rattle.rules.specs.Calendar.{impossibleMonth}
 use Rattle.rules.specs.Verdict.{Verdict, accepted, when, _then_, eachLine}
-use Rattle.rules.specs.Lines.{Lines, agentOf, userOf, monthLines}
+use Rattle.rules.specs.Lines.{Lines, userOf, monthLines}
 use Rattle.rules.specs.Refusals.{State, Lengths, badCounts, shortSlices, badMonth, creditTest, pointTest, lineTests, sumTests, refusal}
 use Rattle.rules.specs.Calls.{stateOf, verdictOf}
 use Rattle.charges.specs.declared.scan.Sums.{Sums}
 use Rattle.charges.specs.Scan.{scanned}
 use Rattle.charges.specs.Month.{Billed}
+use Rattle.charges.proofs.Ready.{Tested}
 use Rattle.closing.specs.declared.judge.Judged.{Judged}
 
 -- 1 to 4, of the counts of user, agent and point lines
@@ -36,15 +35,9 @@ pub record ScannedTo (users : List (List ℤ)) (count : ℕ) (found : Answer) (p
   pub counted : count ≡ length points
   pub first : length points ≤ 1024 → verdictOf found ≡ eachLine (pointTest (map userOf users)) 1 points
 
--- ---- 8, 9 and 10: the lines have passed 1 to 7
+-- ---- 8, 9 and 10: these lines have passed 1 to 7, and s is what a scan of their points has found
 pub record Passed7 (month ons : ℤ) (held : List ℤ) (agents users : List (List ℤ)) (s : Sums) (points : List Point) : Type 0 where
-  pub few-users : length users ≤ 512
-  pub few-agents : length agents ≤ 256
-  pub few-points : length points ≤ 1024
-  pub possible-month : impossibleMonth month ≡ false
-  pub held-count : length held ≡ length users
-  pub held-passed : eachLine creditTest 1 held ≡ accepted
-  pub lines-passed : lineTests (monthLines month ons agents users points) ≡ accepted
+  pub tests : Tested month ons agents users points held
   pub sums : s ≡ scanned (map userOf users) points
 
 abbrev pub Billable : List ℤ → List (List ℤ) → List (List ℤ) → Sums → Type 0

@@ -149,6 +149,7 @@ pub fn judge(
     cells: u64,
     work: u64,
 ) -> Judged
+    requires { ⌜ ((ps : List Point) × ScanFinds (now users) points s ps) ⌝ }
     ensures { λ r. ⌜ ((ps : List Point) → ScanFinds (now (users .entry)) points s ps
         → Judges ledger (now (held .entry)) (record { held = length (now (held .entry)); cells = cells; work = work }) month ons (now (agents .entry)) (now (users .entry)) ps r) ⌝ }
 {

@@ -77,6 +77,7 @@ fn finish(
     cells: &mut [i64],
     work: &mut [u64],
 ) -> Outcome
+    requires { ⌜ ((points : List Point) × ScanFinds (now users) n s points) ⌝ }
     ensures { λ r. ⌜ ((points : List Point) → ScanFinds (now (users .entry)) n s points
         → Closes ledger (now (held .entry)) (monthLines month ons (now (agents .entry)) (now (users .entry)) points) (now (cells .entry)) (now (work .entry)) r (now (held .exit)) (now (cells .exit)) (now (work .exit))) ⌝ }
 {

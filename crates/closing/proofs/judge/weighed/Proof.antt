@@ -1,0 +1,162 @@
+-- 8 and 9 by the sums, then the amounts, then 10 by theirs. What each step asks is what the month has passed.
+use mathlib.Core.Path.{_≡_, sym, ap, _∙_}
+use mathlib.Core.List.{List}
+use borrow.Author.Needs.{needs}
+use lib.IntN.{ℤ}
+use lib.Seq.{length-take-le}
+use mir.Syntax.{w64}
+use mir.Val.{SFits, toZ, ofZ}
+use mir.Facts.{toZ-ofZ}
+use Rattle.ints.specs.Sums.{sumℤ}
+use Rattle.rules.specs.declared.Point.{Point}
+use Rattle.rules.specs.Lines.{Lines, monthLines}
+use Rattle.rules.specs.Refusals.{sumTests}
+use Rattle.rules.specs.Calls.{verdictOf}
+use Rattle.charges.specs.Month.{pvOf, Month, firstUses, firstOverruns, Billed}
+use Rattle.closing.specs.Judged.{Passed7}
+use Rattle.closing.proofs.Judging.{refuses}
+use Rattle.closing.proofs.Weighing.{weights, pbTotal, agents-asked, uses-reach, total-asked, weights-refused, bill-asked, debits-tested}
+use Rattle.closing.proofs.judge.weighed.Statement.{statement}
+use Rattle.closing.proofs.judge.weighed.Tie as tie
+
+module _ (s : tie.Start) where
+  abbrev held : List ℤ
+  held = s .args .held .now
+
+  abbrev agents : List (List ℤ)
+  agents = s .args .agents .now
+
+  abbrev users : List (List ℤ)
+  users = s .args .users .now
+
+  -- of any month that has passed
+  module _ (month ons : ℤ) (points : List Point) where
+    abbrev Passed : Type 0
+    Passed = Passed7 month ons held agents users (s .args .s) points
+
+    abbrev lines : Lines
+    lines = monthLines month ons agents users points
+
+-- what the sums have come to
+pv-told : (c : tie.After-pv-total) → c .pv-total .result ≡ sumℤ (pvOf (agents (c .before .before)))
+pv-told c = c .pv-total .ensures
+
+weights-told :
+    (c : tie.After-weights-verdict)
+    → let s = c .before .before .before .before .before .before in
+    verdictOf (c .weights-verdict .result) ≡ weights (pbTotal (agents s)) (sumℤ (pvOf (agents s))) (sumℤ (firstUses (users s) (s .args .s)))
+weights-told c =
+    let d = c .before .before .before in
+    let pv : SFits w64 (d .before .pv-total .result) = search needs in
+    let pb : SFits w64 (d .pb-total .result) = search needs in
+    let uses : SFits w64 (c .before .total .result) = search needs in
+    rw (sym (d .pb-total .ensures), sym (pv-told (d .before)), sym (c .before .total .ensures)) (simp (toZ-ofZ, pv, pb, uses) at (c .weights-verdict .ensures))
+
+-- what the amounts ask, and what they have come to
+month-asked :
+    (c : tie.After-enum-told) {month ons : ℤ} {points : List Point}
+    → let d = c .before .before .before .before .before .before in
+    let s = d .before .before in
+    Passed s month ons points
+    → Month (users s) (firstUses (users s) (s .args .s)) (firstOverruns (users s) (s .args .s)) (toZ w64 (ofZ w64 (d .pv-total .result))) (held s) (lines s month ons points)
+month-asked c t =
+    let d = c .before .before .before .before .before .before in
+    let f : SFits w64 (d .pv-total .result) = search needs in
+    rw (toZ-ofZ f ∙ pv-told d) (bill-asked t _ (weights-told (c .before .before)) (ap verdictOf (c .enum-told .given .1)))
+
+billed :
+    (c : tie.After-bill) {month ons : ℤ} {points : List Point}
+    → let s = c .before .before .before .before .before .before .before .before .before in
+    Passed s month ons points
+    → Billed (users s) (held s) (lines s month ons points) (c .bill .result)
+billed c t = c .bill .ensures _ (month-asked (c .before) t)
+
+debits-told :
+    (c : tie.After-debits-verdict) {month ons : ℤ} {points : List Point}
+    → let s = c .before .before .before .before .before .before .before .before .before .before .before in
+    Passed s month ons points
+    → verdictOf (c .debits-verdict .result) ≡ sumTests (held s) (lines s month ons points)
+debits-told c t =
+    let b = c .before .before in
+    let f : SFits w64 (b .bill .result .total) = search needs in
+    (simp (toZ-ofZ, f) at (c .debits-verdict .ensures))
+    ∙ debits-tested t _ (weights-told (b .before .before .before)) (ap verdictOf (b .before .enum-told .given .1)) (billed b t)
+
+pv-total-requires : tie.Need-pv-total-requires
+pv-total-requires c κs = agents-asked (c .before .pre .3)
+
+pb-total-requires : tie.Need-pb-total-requires
+pb-total-requires c κs = agents-asked (c .before .before .pre .3)
+
+array-share-prefix-uses : tie.Need-array-share-prefix-uses
+array-share-prefix-uses c = uses-reach (c .before .before .before .pre .3)
+
+slice-aggregate-total : tie.Need-slice-aggregate-total
+slice-aggregate-total c = sym (length-take-le _ _ (uses-reach (c .before .before .before .before .pre .3)))
+
+total-requires : tie.Need-total-requires
+total-requires c κs = total-asked (c .before .before .before .before .pre .3)
+
+weights-verdict-requires : tie.Need-weights-verdict-requires
+weights-verdict-requires c κs = search needs
+
+enum-known-verdict : tie.Need-enum-known-verdict
+enum-known-verdict c = search needs
+
+refused-requires : tie.Need-refused-requires
+refused-requires c κs = search needs
+
+enum-told : tie.Need-enum-told
+enum-told c = search needs
+
+bill-requires : tie.Need-bill-requires
+bill-requires c κs =
+    let p = c .before .before .before .before .before .before .before .before .pre in
+    (_, month-asked c (p .3))
+
+debits-verdict-requires : tie.Need-debits-verdict-requires
+debits-verdict-requires c κs = search needs
+
+enum-known-last : tie.Need-enum-known-last
+enum-known-last c = search needs
+
+refused-requires-2 : tie.Need-refused-requires-2
+refused-requires-2 c κs = search needs
+
+enum-told-2 : tie.Need-enum-told-2
+enum-told-2 c = search needs
+
+returns : tie.Need-returns
+returns c month ons points t =
+    let d = c .before .before .before .before in
+    refuses _ (c .refused .ensures) (weights-refused t _ (weights-told d) (ap verdictOf (c .before .before .verdict .given .1)))
+
+returns-2 : tie.Need-returns-2
+returns-2 c month ons points t = refuses _ (c .refused2 .ensures) (sym (ap verdictOf (c .before .before .last .given .1)) ∙ debits-told (c .before .before .before .before) t)
+
+returns-3 : tie.Need-returns-3
+returns-3 c month ons points t =
+    let d = c .before .before in
+    record { verdict = sym (ap verdictOf (c .enum-told2 .given .1)) ∙ debits-told d t; bills = λ _. billed (d .before .before) t }
+
+pub weighed-spec : {M : Type 1} → statement M
+weighed-spec =
+    tie.close
+    (tie.spec
+    pv-total-requires
+    pb-total-requires
+    array-share-prefix-uses
+    slice-aggregate-total
+    total-requires
+    weights-verdict-requires
+    enum-known-verdict
+    refused-requires
+    enum-told
+    bill-requires
+    debits-verdict-requires
+    enum-known-last
+    refused-requires-2
+    enum-told-2
+    returns
+    returns-2
+    returns-3)

@@ -1,0 +1,57 @@
+-- A closing that was judged: refused, it changes nothing; accepted, it may write, and what it writes is what closing promises.
+use Prim.Native.Nat.{ℕ, _+_, _*_, _≤_}
+use mathlib.Core.Path.{_≡_, sym, ap, _∙_}
+use mathlib.Core.List.{List, _++_}
+use lib.IntN.{ℤ}
+use lib.ListN.{length, take, drop}
+use lib.Seq.{length-take-le}
+use Rattle.rules.specs.declared.Answer.the-variants.{Accepted, Refused}
+use Rattle.rules.specs.declared.Ledger.{Ledger}
+use Rattle.rules.specs.declared.Point.{Point}
+use Rattle.rules.specs.Verdict.{accepted}
+use Rattle.rules.specs.Lines.{Lines, monthLines}
+use Rattle.rules.specs.Calls.{verdictOf, lengthsOf, closingRefusal, Closes}
+use Rattle.rules.proofs.Promise.{closes-refused, closes-accepted}
+use Rattle.closing.specs.declared.judge.Judged.{Judged}
+use Rattle.closing.specs.Judged.{Judges}
+use Rattle.closing.specs.Written.{Writable, Written}
+use Rattle.closing.proofs.Ready.{user-count, cell-count, held-reach, cells-reach, writable}
+
+-- what was found of this closing
+pub record Found (g : Ledger) (held cells : List ℤ) (work : List ℕ) (month ons : ℤ) (agents users : List (List ℤ)) (points : List Point) (r : Judged) : Type 0 where
+  pub judged : Judges g held (lengthsOf held cells work) month ons agents users points r
+
+module _ {g : Ledger} {held cells : List ℤ} {work : List ℕ} {month ons : ℤ} {agents users : List (List ℤ)} {points : List Point} {r : Judged} (f : Found g held cells work month ons agents users points r) where
+  abbrev l : Lines
+  l = monthLines month ons agents users points
+
+  pub refused-closes : {n p : ℕ} → r .verdict ≡ Refused n p → Closes g held l cells work (record { answer = Refused n p; ledger = g }) held cells work
+  refused-closes {n} {p} e = closes-refused g held l cells work n p (sym (f .judged .verdict) ∙ ap verdictOf e)
+
+  module _ (e : r .verdict ≡ Accepted) where
+    -- nothing refuses it
+    passed : closingRefusal g held cells work l ≡ accepted
+    passed = sym (f .judged .verdict) ∙ ap verdictOf e
+
+    pub held-enough : length users ≤ length held
+    held-enough = held-reach g held cells work month ons agents users points passed
+
+    pub cells-enough : (length agents + 1) * length users ≤ length cells
+    cells-enough = cells-reach g held cells work month ons agents users points passed
+
+    pub may-write : Writable (r .bills) month ons agents (take (length users) held) (take ((length agents + 1) * length users) cells) work l
+    may-write = writable g held cells work month ons agents users points passed (r .bills) (f .judged .bills passed)
+
+    pub accepted-closes :
+        {held′ cells′ : List ℤ} {work′ : List ℕ}
+        → Written (take (length users) held) l work held′ cells′ work′
+        → length cells′ ≡ length (take ((length agents + 1) * length users) cells)
+        → Closes g held l cells work (record { answer = Accepted; ledger = record { users = g .users; agents = g .agents; month = month } })
+        (held′ ++ drop (length users) held)
+        (cells′ ++ drop ((length agents + 1) * length users) cells)
+        work′
+    accepted-closes {held′} {cells′} {work′} w long =
+        let u = user-count g held cells work month ons agents users points passed in
+        let m = cell-count g held cells work month ons agents users points passed in
+        let n = long ∙ length-take-le _ cells cells-enough ∙ m in
+        rw (w .credits, m, u) (closes-accepted g held l cells work cells′ work′ passed (rw u at (w .table)) n (w .scratch))
