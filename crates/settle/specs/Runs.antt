@@ -1,9 +1,11 @@
 -- What the parts of the program tell each other: lengths and places. Assumes nothing.
 use Prim.Native.Nat.{ℕ, _+_, _*_, _≤_, _<_}
 use mathlib.Core.Path.{_≡_}
-use mathlib.Core.List.{List}
-use lib.ListN.{length}
+use mathlib.Core.List.{List, []}
+use lib.ListN.{length, replicate, length-replicate}
 use lib.IntN.{ℤ}
+use Rattle.rules.specs.Lines.{pointOf}
+use Rattle.rules.specs.declared.Point.{Point}
 use Rattle.monthfile.specs.declared.reading.Header.{Header}
 use Rattle.settle.specs.declared.input.Input.{Input}
 use Rattle.settle.specs.declared.input.Input.the-variants.{Text, Over, Failed}
@@ -15,6 +17,14 @@ abbrev pub InputWithin : ℕ → Input → Type 0
 InputWithin most (Text n) = n ≤ most
 InputWithin most Over = Unit {0}
 InputWithin most Failed = Unit {0}
+
+-- the points before a file is read
+unfoldable pub noPoints : List Point
+noPoints = replicate 256 (pointOf [])
+
+pub no-points-count : length noPoints ≡ 256
+unfolding noPoints
+no-points-count = length-replicate 256 (pointOf [])
 
 -- the buffers go together: a held credit for each user, a cell for each payee and user
 pub record Buffers (agents users : List (List ℤ)) (held cells : List ℤ) : Type 0 where

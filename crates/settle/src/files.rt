@@ -3,13 +3,13 @@
 ghost use lib.ListN.{length};
 ghost use Rattle.settle.specs.Runs.{Buffers, Lies, GoesTo, GoesOn};
 use crate::month;
+use crate::month::Month;
 use crate::output;
 use monthfile::reading::Header;
 use monthfile::reading::Reading;
 use rules::Answer;
 use rules::Ledger;
 use rules::Outcome;
-use rules::Point;
 
 // The ledger, once the first file has opened it.
 pub enum Books {
@@ -35,7 +35,7 @@ fn opened(books: Books, users: usize, agents: usize, held: &mut [i64]) -> Outcom
 
 fn closed(
     h: Header,
-    points: [Point; 256],
+    m: Month,
     ledger: Ledger,
     agents: &[[i64; 7]],
     users: &[[i64; 3]],
@@ -55,7 +55,7 @@ fn closed(
         h.ons,
         &agents[..a],
         &users[..u],
-        points,
+        m,
         h.points,
         cells,
         work,
@@ -85,7 +85,7 @@ fn file(
     requires { ⌜ Buffers (now agents) (now users) (now held) (now cells) ⌝ }
     ensures { λ r. ⌜ GoesOn at (length (now (text .entry))) r ⌝ }
 {
-    let m = month::read(text, at, agents, users, month::no_points());
+    let m = month::read(text, at, agents, users);
     let reading = m.reading;
     match reading {
         Reading::Refused(number, place) => {
@@ -101,9 +101,8 @@ fn file(
                     Step::Over
                 }
                 Answer::Accepted => {
-                    let points = m.points;
                     let ledger = o.ledger;
-                    closed(h, points, ledger, agents, users, held, cells, work)
+                    closed(h, m, ledger, agents, users, held, cells, work)
                 }
             }
         }

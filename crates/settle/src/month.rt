@@ -1,10 +1,12 @@
 // One month, read and closed with its points in an array of records. Only these two functions lend a slice of points.
 ghost use mathlib.Core.Path.{_≡_};
+ghost use mathlib.Core.List.{[]};
 ghost use Prim.Native.Nat.{_≤_};
-ghost use lib.ListN.{length, take};
-ghost use Rattle.rules.specs.Lines.{monthLines};
+ghost use lib.ListN.{take};
+ghost use Rattle.rules.specs.Lines.{pointOf, monthLines};
 ghost use Rattle.rules.specs.Calls.{Closes};
 ghost use Rattle.monthfile.specs.Reads.{Reads};
+ghost use Rattle.settle.specs.Runs.{noPoints};
 use monthfile::reading::Reading;
 use rules::Ledger;
 use rules::Outcome;
@@ -16,7 +18,9 @@ pub struct Month {
     pub points: [Point; 256],
 }
 
-fn no_point() -> Point {
+fn no_point() -> Point
+    ensures { λ r. ⌜ r ≡ pointOf [] ⌝ }
+{
     Point {
         user: 0,
         tp: 0,
@@ -31,30 +35,21 @@ fn no_point() -> Point {
 }
 
 pub fn no_points() -> [Point; 256]
-    ensures { λ r. ⌜ 256 ≡ length r ⌝ }
+    ensures { λ r. ⌜ r ≡ noPoints ⌝ }
 {
     [no_point(); 256]
 }
 
-// Reads the file at a place; the points are those handed in, but for the ones that it wrote.
-pub fn read(
-    text: &[u8],
-    at: usize,
-    agents: &mut [[i64; 7]],
-    users: &mut [[i64; 3]],
-    points: [Point; 256],
-) -> Month
-    ensures { λ r. ⌜ Reads (now (text .entry)) at (now (agents .entry)) (now (users .entry)) points (now (agents .exit)) (now (users .exit)) (r .points) (r .reading) ⌝ }
+// Reads the file at a place: what was answered, with its points.
+pub fn read(text: &[u8], at: usize, agents: &mut [[i64; 7]], users: &mut [[i64; 3]]) -> Month
+    ensures { λ r. ⌜ Reads (now (text .entry)) at (now (agents .entry)) (now (users .entry)) noPoints (now (agents .exit)) (now (users .exit)) (r .points) (r .reading) ⌝ }
 {
-    let mut written = points;
-    let reading = monthfile::points::read_at(text, at, agents, users, &mut written);
-    Month {
-        reading,
-        points: written,
-    }
+    let mut points = no_points();
+    let reading = monthfile::points::read_at(text, at, agents, users, &mut points);
+    Month { reading, points }
 }
 
-// Closes a month with the first n of these points.
+// Closes a month with the first n of the points that were read.
 pub fn close(
     ledger: Ledger,
     held: &mut [i64],
@@ -62,14 +57,15 @@ pub fn close(
     ons: i64,
     agents: &[[i64; 7]],
     users: &[[i64; 3]],
-    points: [Point; 256],
+    m: Month,
     n: usize,
     cells: &mut [i64],
     work: &mut [u64],
 ) -> Outcome
     requires { ⌜ n ≤ 256 ⌝ }
-    ensures { λ r. ⌜ Closes ledger (now (held .entry)) (monthLines month ons (now (agents .entry)) (now (users .entry)) (take n points)) (now (cells .entry)) (now (work .entry)) r (now (held .exit)) (now (cells .exit)) (now (work .exit)) ⌝ }
+    ensures { λ r. ⌜ Closes ledger (now (held .entry)) (monthLines month ons (now (agents .entry)) (now (users .entry)) (take n (m .points))) (now (cells .entry)) (now (work .entry)) r (now (held .exit)) (now (cells .exit)) (now (work .exit)) ⌝ }
 {
+    let points = m.points;
     ledger::close(
         ledger,
         held,

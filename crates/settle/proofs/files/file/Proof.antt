@@ -1,12 +1,11 @@
 -- An accepted file lies in the buffers, and the next one begins further on.
+use mathlib.Core.Path.{sym}
 use borrow.Author.Needs.{needs}
 use lib.ListN.{length}
+use Rattle.settle.specs.Runs.{no-points-count}
 use Rattle.settle.proofs.Buffered.{Counted, file-counts, same-buffers, lies, goes-on}
 use Rattle.settle.proofs.files.file.Statement.{statement}
 use Rattle.settle.proofs.files.file.Tie as tie
-
-no-points-requires : tie.Need-no-points-requires
-no-points-requires c κs = search needs
 
 read-requires : tie.Need-read-requires
 read-requires c κs = search needs
@@ -34,13 +33,13 @@ enum-told c = search needs
 
 -- where the file was read, and what is known of it
 abbrev read : tie.After-closed-arg5 → tie.After-read
-read c = c .before .before .before .before .before .before .before .before .before .before .before .before .before .before .before .before .before
+read c = c .before .before .before .before .before .before .before .before .before .before .before .before .before .before .before .before
 
 abbrev start : tie.After-closed-arg5 → tie.Start
-start c = read c .before .before .before .before .before .before
+start c = read c .before .before .before .before .before
 
 abbrev told : tie.After-closed-arg5 → tie.After-reading2
-told c = c .before .before .before .before .before .before .before .before .before .before .before .before .before
+told c = c .before .before .before .before .before .before .before .before .before .before .before .before
 
 counts :
     (c : tie.After-closed-arg5)
@@ -51,7 +50,7 @@ counts :
     (start c .args .at)
     (length (start c .args .text .now))
     (told c .reading2 .given .0 .0)
-counts c = file-counts _ _ _ _ _ _ _ _ _ (read c .read .ensures) _ (told c .reading2 .given .1) (read c .before .no-points .ensures)
+counts c = file-counts _ _ _ _ _ _ _ _ _ (read c .read .ensures) _ (told c .reading2 .given .1) (sym no-points-count)
 
 closed-requires : tie.Need-closed-requires
 closed-requires c κs =
@@ -103,7 +102,6 @@ pub file-spec : {M : Type 1} → statement M
 file-spec =
     tie.close
     (tie.spec
-    no-points-requires
     read-requires
     enum-known-reading
     refused-requires
