@@ -1,5 +1,5 @@
 // The ledger (paper 01, "The ledger"): opening, and closing a month. What is proved of every list of closings stands in proofs/Demand.
-mod points;
+pub mod points;
 
 ghost use mathlib.Core.Path.{_≡_};
 ghost use mathlib.Core.List.{List};

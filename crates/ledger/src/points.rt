@@ -9,7 +9,7 @@ use charges::scan::Sums;
 use rules::Point;
 
 // One point, taken out for the charge functions.
-fn point_at(points: &[Point], i: usize) -> Point
+pub fn point_at(points: &[Point], i: usize) -> Point
     requires { ⌜ i < length (now points) ⌝ }
     ensures { λ r. ⌜ r ≡ getD (now (points .entry)) i (pointOf []) ⌝ }
 {
@@ -17,7 +17,7 @@ fn point_at(points: &[Point], i: usize) -> Point
 }
 
 // How many points are scanned: a month of more is refused by its count.
-fn scanned_count(points: usize) -> usize
+pub fn scanned_count(points: usize) -> usize
     ensures { λ r. ⌜ r ≡ min 1024 points ⌝ }
 {
     if points < 1024 { points } else { 1024 }

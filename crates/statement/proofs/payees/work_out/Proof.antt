@@ -1,0 +1,85 @@
+-- The columns, then the agents' rows, then ONS's after them.
+use native.Mathlib.Omega.{arith}
+use mathlib.Core.Path.{_≡_, sym, ap, _∙_}
+use mathlib.Core.List.{List, [], _∷_, _++_}
+use borrow.Author.Needs.{needs}
+use lib.IntN.{ℤ}
+use lib.ListN.{length}
+use lib.Seq.{length-take-le}
+use mir.Syntax.{w64}
+use mir.Val.{SFits}
+use mir.Facts.{toZ-ofZ}
+use Rattle.ints.specs.Fill.{set-last}
+use Rattle.statement.specs.Statement.{onsRow}
+use Rattle.statement.proofs.payees.work_out.Statement.{statement}
+use Rattle.statement.proofs.payees.work_out.Tie as tie
+
+agent-credits-requires : tie.Need-agent-credits-requires
+agent-credits-requires c κs = search needs
+
+slice-relend-prefix-rows : tie.Need-slice-relend-prefix-rows
+slice-relend-prefix-rows c = search needs
+
+slice-aggregate-rows : tie.Need-slice-aggregate-rows
+slice-aggregate-rows c = sym (length-take-le _ _ (omega (arith, c .before .before .before .before .before .before .before .before .before .before .pre .4)))
+
+rows-requires : tie.Need-rows-requires
+rows-requires c κs =
+    let d = c .before .before .before .before .before .before in
+    let s = c .before .before .before .before .before .before .before .before .before .before in (
+      rw (toZ-ofZ (s .fits .month)) (s .pre .0 .possible),
+      s .pre .0 .lines,
+      d .agent-credits .kept .1 .1 .1 .1 .1 .0 ∙ s .pre .2,
+      d .agent-credits .kept .1 .1 .1 .1 .1 .1 .0 ∙ s .pre .3,
+      length-take-le _ _ (omega (arith, s .pre .4)),
+    )
+
+mul-row : tie.Need-mul-row
+mul-row c = search needs
+
+slice-set-from-row : tie.Need-slice-set-from-row
+slice-set-from-row c = search needs
+
+same-length : tie.Need-same-length
+same-length c = search needs
+
+same-length-2 : tie.Need-same-length-2
+same-length-2 c = search needs
+
+same-length-3 : tie.Need-same-length-3
+same-length-3 c = search needs
+
+same-length-4 : tie.Need-same-length-4
+same-length-4 c = search needs
+
+returns : tie.Need-returns
+returns c =
+    let r = c .before in
+    let d = c .before .before .before .before .before .before .before .before in
+    let s = c .before .before .before .before .before .before .before .before .before .before .before .before in
+    let f : SFits w64 (d .agent-credits .result) = search needs in
+    let a = rw (toZ-ofZ (s .fits .month), toZ-ofZ (s .fits .ons), toZ-ofZ (s .fits .debits)) at (d .agent-credits .ensures) in
+    let e = rw (toZ-ofZ (s .fits .month), a .VMANTs, a .VCs) at (r .rows .ensures) in
+    let long = r .rows .kept .1 .1 .1 .1 .0 ∙ length-take-le (length (s .args .agents .now)) (s .args .out .now) (omega (arith, s .pre .4)) in
+    record {
+      SMSE = toZ-ofZ f ∙ a .SMSE;
+      rows-are =
+          rw (toZ-ofZ (s .fits .ons))
+          (set-last (r .rows .last .1 .1 .1 .1 .0) (s .args .out .now) (length (s .args .agents .now)) (onsRow (s .args .ons)) (s .pre .4) long ∙ ap (λ (l : List (List ℤ)). l ++ onsRow (s .args .ons) ∷ []) e);
+    }
+
+pub work-out-spec : {M : Type 1} → statement M
+work-out-spec =
+    tie.close
+    (tie.spec
+    agent-credits-requires
+    slice-relend-prefix-rows
+    slice-aggregate-rows
+    rows-requires
+    mul-row
+    slice-set-from-row
+    same-length
+    same-length-2
+    same-length-3
+    same-length-4
+    returns)

@@ -1,0 +1,225 @@
+-- After i turns the first i entries are the rows of the first i users.
+use Prim.Native.Nat.{ℕ, _-_, _<_}
+use native.Mathlib.Omega.{arith}
+use mathlib.Core.Path.{_≡_, sym, _∙_}
+use mathlib.Core.List.{List, []}
+use borrow.Author.Needs.{needs, sfits-of}
+use lib.IntN.{ℤ, pos, _-ℤ_}
+use lib.ListN.{length, getD}
+use mir.Syntax.{w64}
+use mir.Val.{SFits}
+use mir.Facts.{toZ-ofZ}
+use Rattle.ints.specs.Bounds.{Word}
+use Rattle.ints.specs.Fill.{Filling, filling-none, filling-long, filling-more, filling-all}
+use Rattle.statement.specs.Statement.{at}
+use Rattle.statement.specs.Columns.{UserColumns, userRowsBy}
+use Rattle.statement.proofs.Entries.{length-userRows, user-row-at}
+use Rattle.statement.proofs.users.rows.Statement.{statement}
+use Rattle.statement.proofs.users.rows.Tie as tie
+
+abbrev Inv-loop : tie.InvT-loop
+Inv-loop users uses overruns vme cpv held debits credits out₀ n i₀ out i =
+    Filling (userRowsBy users uses overruns vme cpv held debits credits) out₀ out i
+
+abbrev μ-loop : tie.MeasureT-loop
+μ-loop users uses overruns vme cpv held debits credits out₀ n i₀ out i = n - i
+
+same : (s : tie.Start Inv-loop μ-loop) → let a = s .args in length (userRowsBy (a .users .now) (a .uses .now) (a .overruns .now) (a .vme .now) (a .cpv .now) (a .held .now) (a .debits .now) (a .credits .now)) ≡ length (a .out .now)
+same s =
+    let a = s .args in
+    length-userRows (a .users .now) (a .uses .now) (a .overruns .now) (a .vme .now) (a .cpv .now) (a .held .now) (a .debits .now) (a .credits .now) ∙ sym (s .pre .out-count)
+
+loop-holds : tie.Need-loop-holds Inv-loop μ-loop
+loop-holds c = filling-none _ _
+
+mul-line : tie.Need-mul-line Inv-loop μ-loop
+mul-line c = omega arith
+
+shared-slice-copy-out-line : tie.Need-shared-slice-copy-out-line Inv-loop μ-loop
+shared-slice-copy-out-line c = omega arith
+
+mul-net : tie.Need-mul-net Inv-loop μ-loop
+mul-net c = omega arith
+
+shared-slice-copy-out-net : tie.Need-shared-slice-copy-out-net Inv-loop μ-loop
+shared-slice-copy-out-net c = omega arith
+
+mul-net-2 : tie.Need-mul-net-2 Inv-loop μ-loop
+mul-net-2 c = omega arith
+
+shared-slice-copy-out-net-2 : tie.Need-shared-slice-copy-out-net-2 Inv-loop μ-loop
+shared-slice-copy-out-net-2 c = omega arith
+
+mul-net-3 : tie.Need-mul-net-3 Inv-loop μ-loop
+mul-net-3 c = omega arith
+
+shared-slice-copy-out-net-3 : tie.Need-shared-slice-copy-out-net-3 Inv-loop μ-loop
+shared-slice-copy-out-net-3 c = omega arith
+
+-- what `net` asks, and what it comes to
+module _ (c : tie.After-net-arg3 Inv-loop μ-loop) where
+  abbrev turn : tie.In-loop Inv-loop μ-loop
+  turn = c .before .before .before .before
+
+  abbrev start : tie.Start Inv-loop μ-loop
+  start = turn .before .before
+
+  abbrev i : ℕ
+  i = turn .before .loop .i
+
+  words : Word 100000000000 1638500000000000 (at (start .args .vme .now) i) × Word 0 25600000000000 (at (start .args .cpv .now) i) × Word 0 100000000000000000 (at (start .args .held .now) i)
+  words =
+      let r = start .pre in
+      let h = turn .loop-test .taken in
+      (r .charge .at i (omega (arith, r .vme-count)), r .compensation .at i (omega (arith, r .cpv-count)), r .credit .at i (omega (arith, r .held-count)))
+
+net-requires : tie.Need-net-requires Inv-loop μ-loop
+net-requires c κs = let w = words c in rw (toZ-ofZ (w .0 .fits), toZ-ofZ (w .1 .fits), toZ-ofZ (w .2 .fits)) w
+
+mul-t16 : tie.Need-mul-t16 Inv-loop μ-loop
+mul-t16 c = omega arith
+
+shared-slice-copy-out-t26 : tie.Need-shared-slice-copy-out-t26 Inv-loop μ-loop
+shared-slice-copy-out-t26 c = omega arith
+
+mul-t24 : tie.Need-mul-t24 Inv-loop μ-loop
+mul-t24 c = omega arith
+
+shared-slice-copy-out-t23 : tie.Need-shared-slice-copy-out-t23 Inv-loop μ-loop
+shared-slice-copy-out-t23 c = omega arith
+
+array-copy-out-t20 : tie.Need-array-copy-out-t20 Inv-loop μ-loop
+array-copy-out-t20 c = search needs
+
+mul-t21 : tie.Need-mul-t21 Inv-loop μ-loop
+mul-t21 c = omega arith
+
+shared-slice-copy-out-t32 : tie.Need-shared-slice-copy-out-t32 Inv-loop μ-loop
+shared-slice-copy-out-t32 c = omega arith
+
+mul-t33 : tie.Need-mul-t33 Inv-loop μ-loop
+mul-t33 c = omega arith
+
+shared-slice-copy-out-t35 : tie.Need-shared-slice-copy-out-t35 Inv-loop μ-loop
+shared-slice-copy-out-t35 c = omega arith
+
+mul-t36 : tie.Need-mul-t36 Inv-loop μ-loop
+mul-t36 c = omega arith
+
+shared-slice-copy-out-t38 : tie.Need-shared-slice-copy-out-t38 Inv-loop μ-loop
+shared-slice-copy-out-t38 c = omega arith
+
+mul-t39 : tie.Need-mul-t39 Inv-loop μ-loop
+mul-t39 c = omega arith
+
+shared-slice-copy-out-t41 : tie.Need-shared-slice-copy-out-t41 Inv-loop μ-loop
+shared-slice-copy-out-t41 c = omega arith
+
+mul-t42 : tie.Need-mul-t42 Inv-loop μ-loop
+mul-t42 c = omega arith
+
+shared-slice-copy-out-t44 : tie.Need-shared-slice-copy-out-t44 Inv-loop μ-loop
+shared-slice-copy-out-t44 c = omega arith
+
+mul-row : tie.Need-mul-row Inv-loop μ-loop
+mul-row c = omega arith
+
+-- what is read fits
+uses-fit : (c : tie.After-t26 Inv-loop μ-loop) → let d = c .before .before in SFits w64 (at (start d .args .uses .now) (i d))
+uses-fit c = sfits-of (c .t26 .given)
+
+overruns-fit : (c : tie.After-t23 Inv-loop μ-loop) → let d = c .before .before .before in SFits w64 (at (start d .args .overruns .now) (i d))
+overruns-fit c = sfits-of (c .t23 .given)
+
+ret-fit : (c : tie.After-t20 Inv-loop μ-loop) → let d = c .before .before .before .before in SFits w64 (at (getD (start d .args .users .now) (i d) []) 2)
+ret-fit c = sfits-of (c .t20 .given)
+
+debits-fit : (c : tie.After-t41 Inv-loop μ-loop) → let d = c .before .before .before .before .before .before .before .before in SFits w64 (at (start d .args .debits .now) (i d))
+debits-fit c = sfits-of (c .t41 .given)
+
+credits-fit : (c : tie.After-t44 Inv-loop μ-loop) → let d = c .before .before .before .before .before .before .before .before .before in SFits w64 (at (start d .args .credits .now) (i d))
+credits-fit c = sfits-of (c .t44 .given)
+
+net-fits : (c : tie.After-net Inv-loop μ-loop) → SFits w64 (c .net .result)
+net-fits c = search needs
+
+slice-set-from-row : tie.Need-slice-set-from-row Inv-loop μ-loop
+slice-set-from-row c =
+    let d = c .before .before .before .before .before .before .before .before .before in
+    let s = start d in
+    omega (arith, filling-long (same s) (turn d .before .loop .inv), turn d .loop-test .taken, s .pre .out-count)
+
+add-i : tie.Need-add-i Inv-loop μ-loop
+add-i c = omega arith
+
+loop-less : tie.Need-loop-less Inv-loop μ-loop
+loop-less c = omega arith
+
+loop-again : tie.Need-loop-again Inv-loop μ-loop
+loop-again c =
+    let t = c .before .before .before .before .before in
+    let e = t .before .before .before in
+    let d = e .before in
+    let s = start d in
+    let a = s .args in
+    let h = turn d .loop-test .taken in
+    let w = words d in
+    let n = rw (toZ-ofZ (w .0 .fits), toZ-ofZ (w .1 .fits), toZ-ofZ (w .2 .fits)) at (e .net .ensures) in
+    rw (
+      toZ-ofZ (uses-fit (t .before .before)),
+      toZ-ofZ (overruns-fit (t .before)),
+      toZ-ofZ (ret-fit t),
+      toZ-ofZ (w .0 .fits),
+      toZ-ofZ (w .1 .fits),
+      toZ-ofZ (w .2 .fits),
+      toZ-ofZ (net-fits e),
+      toZ-ofZ (debits-fit (c .before)),
+      toZ-ofZ (credits-fit c),
+      n,
+    )
+    (filling-more (same s) (turn d .before .loop .inv) [] (omega (arith, h, s .pre .out-count)) (sym (user-row-at (s .pre) (i d) h)))
+
+same-length : tie.Need-same-length Inv-loop μ-loop
+same-length c = filling-long (same (c .before .before)) (c .before .loop .inv)
+
+returns : tie.Need-returns Inv-loop μ-loop
+returns c = let s = c .before .before in filling-all (same s) (c .before .loop .inv) (omega (arith, s .pre .out-count, c .loop-test .left))
+
+pub rows-spec : {M : Type 1} → statement M
+rows-spec =
+    tie.close
+    (tie.spec
+    Inv-loop
+    μ-loop
+    loop-holds
+    mul-line
+    shared-slice-copy-out-line
+    mul-net
+    shared-slice-copy-out-net
+    mul-net-2
+    shared-slice-copy-out-net-2
+    mul-net-3
+    shared-slice-copy-out-net-3
+    net-requires
+    mul-t16
+    shared-slice-copy-out-t26
+    mul-t24
+    shared-slice-copy-out-t23
+    array-copy-out-t20
+    mul-t21
+    shared-slice-copy-out-t32
+    mul-t33
+    shared-slice-copy-out-t35
+    mul-t36
+    shared-slice-copy-out-t38
+    mul-t39
+    shared-slice-copy-out-t41
+    mul-t42
+    shared-slice-copy-out-t44
+    mul-row
+    slice-set-from-row
+    add-i
+    loop-less
+    loop-again
+    same-length
+    returns)

@@ -1,0 +1,88 @@
+// The rows of the payees, from the agent lines and the total of the users' debits.
+ghost use Prim.Native.Nat.{_+_};
+ghost use mathlib.Core.Path.{_≡_};
+ghost use mathlib.Core.Bool.{false};
+ghost use mathlib.Core.List.{map};
+ghost use lib.ListN.{length};
+ghost use Rattle.rules.specs.Calendar.{impossibleMonth};
+ghost use Rattle.rules.specs.Lines.{agentOf};
+ghost use Rattle.credits.specs.Columns.{AgentLines};
+ghost use Rattle.credits.specs.Payable.{Payable};
+ghost use Rattle.statement.specs.Statement.{agentRowsOf};
+ghost use Rattle.statement.specs.Columns.{StatesPayees};
+
+// Writes a row for each agent, from its line and the columns.
+fn rows(month: i64, agents: &[[i64; 7]], vmant: &[i64], vc: &[i64], out: &mut [[i64; 5]])
+    requires { ⌜ (impossibleMonth month ≡ false)
+        × AgentLines (map agentOf (now agents))
+        × (length (now vmant) ≡ length (now agents))
+        × (length (now vc) ≡ length (now agents))
+        × (length (now out) ≡ length (now agents)) ⌝ }
+    ensures { λ _. ⌜ now (out .exit) ≡ agentRowsOf month (now (vmant .entry)) (now (vc .entry)) (map agentOf (now (agents .entry))) ⌝ }
+{
+    let c = credits::agent::cycle_month(month);
+    let n = agents.len();
+    let mut i = 0;
+    while i < n {
+        let line = agents[i];
+        let own = credits::agent::vmst(line);
+        let adjustment = credits::agent::vmpa(c, line[5]);
+        let row = [own, adjustment, vmant[i], line[6], vc[i]];
+        out[i] = row;
+        i += 1;
+    }
+}
+
+// Works out the agents' parts of the balance and their credits, and writes the rows. Every slice has one entry for each agent, `out`
+// one more, for ONS. Answers the balance.
+fn work_out(
+    month: i64,
+    ons: i64,
+    debits: i64,
+    agents: &[[i64; 7]],
+    pb: &mut [i64],
+    vmant: &mut [i64],
+    vc: &mut [i64],
+    out: &mut [[i64; 5]],
+) -> i64
+    requires { ⌜ Payable month ons debits (map agentOf (now agents))
+        × (length (now pb) ≡ length (now agents))
+        × (length (now vmant) ≡ length (now agents))
+        × (length (now vc) ≡ length (now agents))
+        × (length (now out) ≡ length (now agents) + 1) ⌝ }
+    ensures { λ r. ⌜ StatesPayees month ons debits (map agentOf (now (agents .entry))) r (now (out .exit)) ⌝ }
+{
+    let balance = credits::payees::agent_credits(month, ons, debits, agents, pb, vmant, vc);
+    let n = agents.len();
+    rows(month, agents, vmant, vc, &mut out[..n]);
+    let row = [0, 0, 0, 0, ons];
+    out[n] = row;
+    balance
+}
+
+// Writes the rows of a month that breaks no limit, `debits` being the sum of what its users owe. Answers the balance.
+pub fn state_payees(
+    month: i64,
+    ons: i64,
+    debits: i64,
+    agents: &[[i64; 7]],
+    out: &mut [[i64; 5]],
+) -> i64
+    requires { ⌜ Payable month ons debits (map agentOf (now agents)) × (length (now out) ≡ length (now agents) + 1) ⌝ }
+    ensures { λ r. ⌜ StatesPayees month ons debits (map agentOf (now (agents .entry))) r (now (out .exit)) ⌝ }
+{
+    let n = agents.len();
+    let mut pb = [0i64; 256];
+    let mut vmant = [0i64; 256];
+    let mut vc = [0i64; 256];
+    work_out(
+        month,
+        ons,
+        debits,
+        agents,
+        &mut pb[..n],
+        &mut vmant[..n],
+        &mut vc[..n],
+        out,
+    )
+}
