@@ -1,37 +1,14 @@
-// File after file (paper 01, "The month file"): the first opens the ledger, and each is closed. A refusal by reading or opening ends the
-// run; a refused closing does not, and leaves the ledger as it was.
+// File after file (paper 01, "The month file"): each is begun and closed. A refused closing leaves the ledger as it was.
 ghost use lib.ListN.{length};
-ghost use Rattle.settle.specs.Runs.{Buffers, Lies, GoesTo, GoesOn};
-use crate::month;
-use crate::month::Month;
+ghost use Rattle.runs.specs.Runs.{Buffers, Lies, GoesTo, GoesOn};
 use crate::output;
 use monthfile::reading::Header;
-use monthfile::reading::Reading;
 use rules::Answer;
 use rules::Ledger;
-use rules::Outcome;
-
-// The ledger, once the first file has opened it.
-pub enum Books {
-    Shut,
-    Open(Ledger),
-}
-
-// After a file: where the next one begins, with which ledger; or the run is over.
-pub enum Step {
-    Next(usize, Ledger),
-    Over,
-}
-
-fn opened(books: Books, users: usize, agents: usize, held: &mut [i64]) -> Outcome {
-    match books {
-        Books::Shut => ledger::open(users as u64, agents as u64, held),
-        Books::Open(ledger) => Outcome {
-            answer: Answer::Accepted,
-            ledger,
-        },
-    }
-}
+use runs::begin::Begun;
+use runs::begin::Books;
+use runs::begin::Step;
+use runs::month::Month;
 
 fn closed(
     h: Header,
@@ -48,7 +25,7 @@ fn closed(
 {
     let a = h.agents;
     let u = h.users;
-    let o = month::close(
+    let o = runs::month::close(
         ledger,
         held,
         h.month,
@@ -85,27 +62,15 @@ fn file(
     requires { ⌜ Buffers (now agents) (now users) (now held) (now cells) ⌝ }
     ensures { λ r. ⌜ GoesOn at (length (now (text .entry))) r ⌝ }
 {
-    let m = month::read(text, at, agents, users);
-    let reading = m.reading;
-    match reading {
-        Reading::Refused(number, place) => {
-            output::refused(number, place as u64);
+    let start = runs::begin::begin(text, at, books, agents, users, held);
+    let m = start.month;
+    let begun = start.begun;
+    match begun {
+        Begun::Refused(number, place) => {
+            output::refused(number, place);
             Step::Over
         }
-        Reading::Accepted(h) => {
-            let o = opened(books, h.users, h.agents, held);
-            let answer = o.answer;
-            match answer {
-                Answer::Refused(number, place) => {
-                    output::refused(number, place);
-                    Step::Over
-                }
-                Answer::Accepted => {
-                    let ledger = o.ledger;
-                    closed(h, m, ledger, agents, users, held, cells, work)
-                }
-            }
-        }
+        Begun::File(h, ledger) => closed(h, m, ledger, agents, users, held, cells, work),
     }
 }
 

@@ -1,9 +1,7 @@
-// The lines that are printed (paper 01, "The month file"). Each is put together before it is written, so that none is written in part
-// unless a write fails; that is told, and answered by false.
-ghost use mathlib.Core.Path.{_≡_};
+// The lines of a closed month (paper 01, "The month file").
 ghost use Prim.Native.Nat.{_+_, _*_, _≤_};
 ghost use lib.ListN.{length};
-use libc::STDOUT_FILENO;
+use runs::lines;
 
 // The longest line has four numbers of at most 20 digits each, a sign, three commas and its end.
 const LONGEST: usize = 96;
@@ -16,63 +14,18 @@ pub enum Payee {
 }
 
 fn write(text: &[u8]) -> bool {
-    if io::write_all(STDOUT_FILENO, text) {
-        return true;
-    }
-    os::fail(b"settle: standard output");
-    false
+    lines::write(text, b"settle: standard output")
 }
 
-// Each of these puts its text at the place `at` of a line, and answers the place after it.
-fn put(line: &mut [u8], at: usize, text: &[u8]) -> usize
-    requires { ⌜ at + length (now text) ≤ length (now line) ⌝ }
-    ensures { λ r. ⌜ r ≡ at + length (now (text .entry)) ⌝ }
-{
-    let n = text.len();
-    let mut i = 0;
-    while i < n {
-        line[at + i] = text[i];
-        i += 1;
-    }
-    at + n
-}
-
-fn put_number(line: &mut [u8], at: usize, n: u64) -> usize
-    requires { ⌜ at + 20 ≤ length (now line) ⌝ }
-    ensures { λ r. ⌜ r ≤ at + 20 ⌝ }
-{
-    let mut digits = [0u8; 20];
-    let k = io::decimal(n, &mut digits);
-    put(line, at, &digits[..k])
-}
-
-// An amount without its sign, also that of the least.
-fn size(x: i64) -> u64 {
-    if x < 0 {
-        return (-(x + 1)) as u64 + 1;
-    }
-    x as u64
-}
-
-fn put_amount(line: &mut [u8], at: usize, x: i64) -> usize
-    requires { ⌜ at + 21 ≤ length (now line) ⌝ }
-    ensures { λ r. ⌜ r ≤ at + 21 ⌝ }
-{
-    if x < 0 {
-        let i = put(line, at, b"-");
-        return put_number(line, i, size(x));
-    }
-    put_number(line, at, size(x))
-}
-
+// Puts the payee at the place `at` of a line, and answers the place after it.
 fn put_payee(line: &mut [u8], at: usize, payee: Payee) -> usize
     requires { ⌜ at + 20 ≤ length (now line) ⌝ }
     ensures { λ r. ⌜ r ≤ at + 20 ⌝ }
 {
     match payee {
-        Payee::Agent(k) => put_number(line, at, k),
-        Payee::Ons => put(line, at, b"ons"),
-        Payee::Held => put(line, at, b"held"),
+        Payee::Agent(k) => lines::put_number(line, at, k),
+        Payee::Ons => lines::put(line, at, b"ons"),
+        Payee::Held => lines::put(line, at, b"held"),
     }
 }
 
@@ -82,25 +35,19 @@ pub fn names() -> bool {
 }
 
 pub fn refused(number: u64, place: u64) -> bool {
-    let mut line = [0u8; LONGEST];
-    let a = put(&mut line, 0, b"refused,");
-    let b = put_number(&mut line, a, number);
-    let c = put(&mut line, b, b",");
-    let d = put_number(&mut line, c, place);
-    let e = put(&mut line, d, b"\n");
-    write(&line[..e])
+    lines::refused(number, place, b"settle: standard output")
 }
 
 fn amount(month: i64, payee: Payee, user: u64, cents: i64) -> bool {
     let mut line = [0u8; LONGEST];
-    let a = put_amount(&mut line, 0, month);
-    let b = put(&mut line, a, b",");
+    let a = lines::put_amount(&mut line, 0, month);
+    let b = lines::put(&mut line, a, b",");
     let c = put_payee(&mut line, b, payee);
-    let d = put(&mut line, c, b",");
-    let e = put_number(&mut line, d, user);
-    let f = put(&mut line, e, b",");
-    let g = put_amount(&mut line, f, cents);
-    let h = put(&mut line, g, b"\n");
+    let d = lines::put(&mut line, c, b",");
+    let e = lines::put_number(&mut line, d, user);
+    let f = lines::put(&mut line, e, b",");
+    let g = lines::put_amount(&mut line, f, cents);
+    let h = lines::put(&mut line, g, b"\n");
     write(&line[..h])
 }
 

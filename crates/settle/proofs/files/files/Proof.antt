@@ -3,9 +3,9 @@ use Prim.Native.Nat.{_-_}
 use native.Mathlib.Omega.{arith}
 use mathlib.Core.Path.{_≡_}
 use lib.ListN.{length}
-use Rattle.settle.specs.Runs.{Buffers}
+use Rattle.runs.specs.Runs.{Buffers}
 use borrow.Author.Needs.{needs}
-use Rattle.settle.proofs.Buffered.{same-buffers, stepped}
+use Rattle.runs.proofs.Buffered.{same-buffers, stepped}
 use Rattle.settle.proofs.files.files.Statement.{statement}
 use Rattle.settle.proofs.files.files.Tie as tie
 

@@ -4,8 +4,8 @@ use mathlib.Core.Path.{_≡_}
 use native.Mathlib.Omega.{arith}
 use borrow.Author.Needs.{needs}
 use lib.ListN.{length}
-use Rattle.settle.proofs.output.put.Statement.{statement}
-use Rattle.settle.proofs.output.put.Tie as tie
+use Rattle.runs.proofs.lines.put.Statement.{statement}
+use Rattle.runs.proofs.lines.put.Tie as tie
 
 abbrev Inv-loop : tie.InvT-loop
 Inv-loop line₀ at text n i₀ line i = (length line ≡ length line₀) × ((n ≡ length text) × (i ≤ n))

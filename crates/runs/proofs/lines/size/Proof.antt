@@ -6,8 +6,8 @@ use mir.Val.{SFits}
 use mir.Facts.{toZ-ofZ}
 use Rattle.ints.specs.Bridge.{abs-is, za, add#, sub#, one#}
 use Rattle.ints.specs.Words.{back#}
-use Rattle.settle.proofs.output.size.Statement.{statement}
-use Rattle.settle.proofs.output.size.Tie as tie
+use Rattle.runs.proofs.lines.size.Statement.{statement}
+use Rattle.runs.proofs.lines.size.Tie as tie
 
 one-more : (c : tie.Then1) → SFits w64 (c .before .args .x +ℤ pos 1)
 one-more c = let x = c .before .args .x in omega (za, back# (c .before .fits .x), one# x, one# (x +ℤ pos 1), add# x (pos 1))

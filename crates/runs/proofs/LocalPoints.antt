@@ -34,9 +34,9 @@ use Rattle.rules.proofs.Point as P
 use Rattle.rules.proofs.Point.Laws as P′
 use Rattle.monthfile.specs.declared.reading.Reading.{Reading}
 use Rattle.monthfile.proofs.reading.Reading as O
-use Rattle.settle.specs.declared.month.Month.{Month}
-use Rattle.settle.proofs.month.Month as Mo
-use Rattle.settle.proofs.month.Month.Laws as Mo′
+use Rattle.runs.specs.declared.month.Month.{Month}
+use Rattle.runs.proofs.month.Month as Mo
+use Rattle.runs.proofs.month.Month.Laws as Mo′
 
 -- a point, and an array of them
 abbrev pub Rp : RattleType

@@ -57,15 +57,15 @@ use Rattle.ledger.proofs.close as ledger-close
 use Rattle.ledger.proofs.close.Symbol as ledger-close-def
 use Rattle.ledger.proofs.close.Symbol.{name as #ledger-close}
 use Rattle.ledger.proofs.close.Met as ledger-close-thm
-use Rattle.settle.specs.declared.month.Month.{Month}
-use Rattle.settle.proofs.LocalPoints.{Rp, Rps, points-type, count, first-room, first-count, points-val, points-are, points-typed, First, Rest, first-out, first-in}
-use Rattle.settle.proofs.month.Month as Mo
-use Rattle.settle.proofs.month.Month.Laws as Mo′
-use Rattle.settle.proofs.month.close.Key.{name as #close}
-use Rattle.settle.proofs.month.close as close
-use Rattle.settle.proofs.month.close.Statement as stated
-use Rattle.settle.proofs.month.close.Code as code
-use Rattle.settle.proofs.month.close.Code.Mir as mir
+use Rattle.runs.specs.declared.month.Month.{Month}
+use Rattle.runs.proofs.LocalPoints.{Rp, Rps, points-type, count, first-room, first-count, points-val, points-are, points-typed, First, Rest, first-out, first-in}
+use Rattle.runs.proofs.month.Month as Mo
+use Rattle.runs.proofs.month.Month.Laws as Mo′
+use Rattle.runs.proofs.month.close.Key.{name as #close}
+use Rattle.runs.proofs.month.close as close
+use Rattle.runs.proofs.month.close.Statement as stated
+use Rattle.runs.proofs.month.close.Code as code
+use Rattle.runs.proofs.month.close.Code.Mir as mir
 
 -- an agent line, a user line, a month that was read, the ledger and the answer
 abbrev slotA : Slot 5

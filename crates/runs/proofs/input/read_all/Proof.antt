@@ -3,14 +3,14 @@ use Prim.Native.Nat.{_-_, _≤_}
 use mathlib.Core.Path.{_≡_}
 use lib.ListN.{length}
 use borrow.Author.Needs.{needs}
-use Rattle.settle.proofs.input.read_all.Statement.{statement}
-use Rattle.settle.proofs.input.read_all.Tie as tie
+use Rattle.runs.proofs.input.read_all.Statement.{statement}
+use Rattle.runs.proofs.input.read_all.Tie as tie
 
 abbrev Inv-loop : tie.InvT-loop
-Inv-loop text₀ most n₀ t6 text n = (length text ≡ length text₀) × ((most ≡ length text₀) × (n ≤ most))
+Inv-loop text₀ told most n₀ text n = (length text ≡ length text₀) × ((most ≡ length text₀) × (n ≤ most))
 
 abbrev μ-loop : tie.MeasureT-loop
-μ-loop text₀ most n₀ t6 text n = most - n
+μ-loop text₀ told most n₀ text n = most - n
 
 loop-holds : tie.Need-loop-holds Inv-loop μ-loop
 loop-holds c = search needs
@@ -26,9 +26,6 @@ part-read-end c = search needs
 
 read-requires : tie.Need-read-requires Inv-loop μ-loop
 read-requires c κs = search needs
-
-slice-aggregate-fail : tie.Need-slice-aggregate-fail Inv-loop μ-loop
-slice-aggregate-fail c = search needs
 
 fail-requires : tie.Need-fail-requires Inv-loop μ-loop
 fail-requires c κs = search needs
@@ -83,7 +80,6 @@ read-all-spec =
     part-read-start
     part-read-end
     read-requires
-    slice-aggregate-fail
     fail-requires
     same-length
     returns

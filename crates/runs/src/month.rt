@@ -1,12 +1,12 @@
 // One month, read and closed with its points in an array of records. Only these two functions lend a slice of points.
 ghost use mathlib.Core.Path.{_≡_};
 ghost use mathlib.Core.List.{[]};
-ghost use Prim.Native.Nat.{_≤_};
+ghost use Prim.Native.Nat.{_≤_, _<_};
 ghost use lib.ListN.{take};
 ghost use Rattle.rules.specs.Lines.{pointOf, monthLines};
 ghost use Rattle.rules.specs.Calls.{Closes};
 ghost use Rattle.monthfile.specs.Reads.{Reads};
-ghost use Rattle.settle.specs.Runs.{noPoints};
+ghost use Rattle.runs.specs.Runs.{noPoints};
 use monthfile::reading::Reading;
 use rules::Ledger;
 use rules::Outcome;
@@ -77,4 +77,13 @@ pub fn close(
         cells,
         work,
     )
+}
+
+// The user of the point at i, counted from 0.
+pub fn user_at(m: Month, i: usize) -> i64
+    requires { ⌜ i < 256 ⌝ }
+{
+    let points = m.points;
+    let p = points[i];
+    p.user
 }

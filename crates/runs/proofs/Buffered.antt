@@ -17,38 +17,30 @@ use Rattle.monthfile.specs.Reads.{answered, Reads}
 use Rattle.monthfile.specs.declared.reading.Header.{Header}
 use Rattle.monthfile.specs.declared.reading.Reading.{Reading}
 use Rattle.monthfile.specs.declared.reading.Reading.the-variants.{Accepted, Refused}
-use Rattle.settle.specs.Runs.{InputWithin, Buffers, Lies, GoesTo, GoesOn}
-use Rattle.settle.specs.declared.input.Input.{Input}
-use Rattle.settle.specs.declared.input.Input.the-variants.{Text}
-use Rattle.settle.specs.declared.files.Step.{Step}
-use Rattle.settle.specs.declared.files.Step.the-variants.{Next, Over}
-
--- what is known of an accepted file: its counts are those of its lines, of which the slices took all, and it has some bytes
-pub record Counted (a u p from most : ℕ) (h : Header) : Type 0 where
-  pub agents : h .agents ≤ a
-  pub users : h .users ≤ u
-  pub points : h .points ≤ p
-  pub further : from < h .next
-  pub within : h .next ≤ most
+use Rattle.runs.specs.Runs.{InputWithin, Counted, Begins, Buffers, Lies, GoesTo, GoesOn}
+use Rattle.runs.specs.declared.input.Input.{Input}
+use Rattle.runs.specs.declared.input.Input.the-variants.{Text}
+use Rattle.runs.specs.declared.begin.Step.{Step}
+use Rattle.runs.specs.declared.begin.Step.the-variants.{Next, Over}
 
 headerOr : Header → Reading → Header
 headerOr h (Accepted k) = k
 headerOr h (Refused n p) = h
 
-module _ (a u p : ℕ) (t : List ℕ) (from : ℕ) (h : Header) where
-  counted : Accepted h ≡ answered (reading (slices a u p) t from) → Counted a u p from (length t) h
+module _ (a u : ℕ) (t : List ℕ) (from : ℕ) (h : Header) where
+  counted : Accepted h ≡ answered (reading (slices a u 256) t from) → Counted a u from (length t) h
   unfolding headerOr
-  counted e = by (reading (slices a u p) t from) refl (reads a u p t from) e
+  counted e = by (reading (slices a u 256) t from) refl (reads a u 256 t from) e
     where
-      by : (y : Answer) → reading (slices a u p) t from ≡ y → Says a u p t from y → Accepted h ≡ answered y → Counted a u p from (length t) h
+      by : (y : Answer) → reading (slices a u 256) t from ≡ y → Says a u 256 t from y → Accepted h ≡ answered y → Counted a u from (length t) h
       by (accepted f next) q s e =
           let k = ap (headerOr h) e in
-          let few = fits-slices a u p f .0 (s .fits) in
-          let on = next-within a u p t from next f q in
+          let few = fits-slices a u 256 f .0 (s .fits) in
+          let on = next-within a u 256 t from next f q in
           record {
-            agents = omega (arith, ap (λ (h : Header). h .agents) k, few .fewAgents);
-            users = omega (arith, ap (λ (h : Header). h .users) k, few .fewUsers);
-            points = omega (arith, ap (λ (h : Header). h .points) k, few .fewPoints);
+            agents-in = omega (arith, ap (λ (h : Header). h .agents) k, few .fewAgents);
+            users-in = omega (arith, ap (λ (h : Header). h .users) k, few .fewUsers);
+            points-in = omega (arith, ap (λ (h : Header). h .points) k, few .fewPoints);
             further = omega (arith, ap (λ (h : Header). h .next) k, on .0);
             within = omega (arith, ap (λ (h : Header). h .next) k, on .1);
           }
@@ -58,9 +50,11 @@ module _
     (t : List ℕ) (from : ℕ)
     (ags us ags′ us′ : List (List ℤ)) (ps ps′ : List Point)
     (r : Reading) (x : Reads t from ags us ps ags′ us′ ps′ r)
-    (h : Header) (e : r ≡ Accepted h) (n : 256 ≡ length ps) where
-  pub file-counts : Counted (length ags) (length us) 256 from (length t) h
-  file-counts = rw n (counted (length ags) (length us) (length ps) t from h (sym e ∙ x .answer))
+    (h : Header) (e : r ≡ Accepted h) (n : length ps ≡ 256) where
+  pub file-counts : Counted (length ags) (length us) from (length t) h
+  file-counts =
+      counted (length ags) (length us) t from h
+      (subst (λ (k : ℕ). Accepted h ≡ answered (reading (slices (length ags) (length us) k) t from)) n (sym e ∙ x .answer))
 
 pub same-buffers :
     {ags us ags′ us′ : List (List ℤ)} {held cells held′ cells′ : List ℤ}
@@ -70,24 +64,26 @@ pub same-buffers :
     → length held′ ≡ length held
     → length cells′ ≡ length cells
     → Buffers ags′ us′ held′ cells′
-same-buffers b e f g k = record { credits = rw (f, g) (b .credits); table = rw (e, f, k) (b .table) }
+same-buffers b e f g k = record { few-agents = rw e (b .few-agents); few-users = rw f (b .few-users); credits = rw (f, g) (b .credits); table = rw (e, f, k) (b .table) }
 
 pub lies :
     {a u from most : ℕ} {h : Header} {ags us : List (List ℤ)} {held cells : List ℤ}
-    → Counted a u 256 from most h
+    → Counted a u from most h
     → Buffers ags us held cells
     → length ags ≡ a
     → length us ≡ u
     → Lies h ags us held cells
 lies {h = h} {ags = ags} {us = us} c b e f =
     record {
-      agents-in = omega (arith, c .agents);
-      users-in = omega (arith, c .users);
-      points-in = c .points;
-      credits = omega (arith, c .users, b .credits);
+      few-agents = omega (arith, c .agents-in, b .few-agents);
+      few-users = omega (arith, c .users-in, b .few-users);
+      agents-in = omega (arith, c .agents-in);
+      users-in = omega (arith, c .users-in);
+      points-in = c .points-in;
+      credits = omega (arith, c .users-in, b .credits);
       table =
-          let i : h .agents + 1 ≤ length ags + 1 = omega (arith, c .agents) in
-          let j : h .users ≤ length us = omega (arith, c .users) in
+          let i : h .agents + 1 ≤ length ags + 1 = omega (arith, c .agents-in) in
+          let j : h .users ≤ length us = omega (arith, c .users-in) in
           omega (arith, mul-le-mul i j, b .table);
     }
 

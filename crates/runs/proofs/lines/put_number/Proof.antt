@@ -1,9 +1,9 @@
 -- A number has at most 20 digits.
 use native.Mathlib.Omega.{arith}
 use borrow.Author.Needs.{needs}
-use Rattle.settle.proofs.Digits.{few-digits}
-use Rattle.settle.proofs.output.put_number.Statement.{statement}
-use Rattle.settle.proofs.output.put_number.Tie as tie
+use Rattle.runs.proofs.Digits.{few-digits}
+use Rattle.runs.proofs.lines.put_number.Statement.{statement}
+use Rattle.runs.proofs.lines.put_number.Tie as tie
 
 decimal-requires : tie.Need-decimal-requires
 decimal-requires c κs = search needs

@@ -55,19 +55,19 @@ use Rattle.monthfile.proofs.points.read_at as read-at
 use Rattle.monthfile.proofs.points.read_at.Symbol as read-at-def
 use Rattle.monthfile.proofs.points.read_at.Symbol.{name as #read-at}
 use Rattle.monthfile.proofs.points.read_at.Met as read-at-thm
-use Rattle.settle.specs.Runs.{noPoints}
-use Rattle.settle.specs.declared.month.Month.{Month}
-use Rattle.settle.proofs.LocalPoints.{Rp, Rps, points-type, count, room, month-is, points-typed, in-cells, out-lies}
-use Rattle.settle.proofs.month.Month as Mo
-use Rattle.settle.proofs.month.Month.Laws as Mo′
-use Rattle.settle.proofs.month.no_points as no-points
-use Rattle.settle.proofs.month.no_points.Symbol as no-points-def
-use Rattle.settle.proofs.month.no_points.Symbol.{name as #no-points}
-use Rattle.settle.proofs.month.no_points.Met as no-points-thm
-use Rattle.settle.proofs.month.read.Key.{name as #read}
-use Rattle.settle.proofs.month.read as read
-use Rattle.settle.proofs.month.read.Statement as stated
-use Rattle.settle.proofs.month.read.Code as code
+use Rattle.runs.specs.Runs.{noPoints}
+use Rattle.runs.specs.declared.month.Month.{Month}
+use Rattle.runs.proofs.LocalPoints.{Rp, Rps, points-type, count, room, month-is, points-typed, in-cells, out-lies}
+use Rattle.runs.proofs.month.Month as Mo
+use Rattle.runs.proofs.month.Month.Laws as Mo′
+use Rattle.runs.proofs.month.no_points as no-points
+use Rattle.runs.proofs.month.no_points.Symbol as no-points-def
+use Rattle.runs.proofs.month.no_points.Symbol.{name as #no-points}
+use Rattle.runs.proofs.month.no_points.Met as no-points-thm
+use Rattle.runs.proofs.month.read.Key.{name as #read}
+use Rattle.runs.proofs.month.read as read
+use Rattle.runs.proofs.month.read.Statement as stated
+use Rattle.runs.proofs.month.read.Code as code
 
 -- an agent line, a user line, a month that was read
 abbrev slotA : Slot 3
@@ -256,5 +256,5 @@ read-spec 𝓤 H 𝓜 𝓖 𝓡 =
     entered 𝓤 H (tripleOf 𝓤 H (𝓖 .A) read.signature (read.spec 𝓤 H (𝓖 .A) (𝓜 .mem) (𝓡 .run)))
     (tables 𝓤 H 𝓜 𝓡 code.env .C) (tables 𝓤 H 𝓜 𝓡 code.env .Λ) #read code.function (code.unfolded 𝓤 H 𝓜 𝓡)
     (read-meets 𝓤 H (𝓖 .A) (givenOf 𝓤 H 𝓜 𝓖) (𝓜 .mem) (𝓡 .run) (tablesOf 𝓤 H 𝓜 (tables 𝓤 H 𝓜 𝓡 code.env))
-    (cited 𝓤 H (NoneC 𝓤 H (𝓖 .A) (𝓜 .mem) (𝓡 .run)) 𝓜 𝓡 code.env #no-points no-points-def.routine code.calls-settle·month·no-points (no-points-thm.met 𝓤 H 𝓜 𝓖 𝓡))
+    (cited 𝓤 H (NoneC 𝓤 H (𝓖 .A) (𝓜 .mem) (𝓡 .run)) 𝓜 𝓡 code.env #no-points no-points-def.routine code.calls-runs·month·no-points (no-points-thm.met 𝓤 H 𝓜 𝓖 𝓡))
     (cited 𝓤 H (ReadC 𝓤 H (𝓖 .A) (𝓜 .mem) (𝓡 .run)) 𝓜 𝓡 code.env #read-at read-at-def.routine code.calls-monthfile·points·read-at (read-at-thm.met 𝓤 H 𝓜 𝓖 𝓡)))

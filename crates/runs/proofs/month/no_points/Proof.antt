@@ -3,9 +3,9 @@ use mathlib.Core.Path.{ap}
 use borrow.Author.Needs.{needs}
 use lib.ListN.{replicate}
 use Rattle.rules.specs.declared.Point.{Point}
-use Rattle.settle.specs.Runs.{noPoints}
-use Rattle.settle.proofs.month.no_points.Statement.{statement}
-use Rattle.settle.proofs.month.no_points.Tie as tie
+use Rattle.runs.specs.Runs.{noPoints}
+use Rattle.runs.proofs.month.no_points.Statement.{statement}
+use Rattle.runs.proofs.month.no_points.Tie as tie
 
 no-point-requires : tie.Need-no-point-requires
 no-point-requires c κs = search needs

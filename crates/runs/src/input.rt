@@ -1,7 +1,7 @@
 // Standard input, read to its end (paper 01: "input over 32,768 bytes" is refused).
 ghost use mathlib.Core.Path.{_≡_};
 ghost use lib.ListN.{length};
-ghost use Rattle.settle.specs.Runs.{InputWithin};
+ghost use Rattle.runs.specs.Runs.{InputWithin};
 use libc::STDIN_FILENO;
 
 // One byte more than the program takes, so that an input that is too long fills it.
@@ -18,7 +18,8 @@ pub enum Input {
     Failed,
 }
 
-pub fn read_all(text: &mut [u8]) -> Input
+// `told` is what is said of a read that fails.
+pub fn read_all(text: &mut [u8], told: &[u8]) -> Input
     ensures { λ r. ⌜ InputWithin (length (now (text .exit))) r ⌝ }
 {
     let most = text.len();
@@ -26,7 +27,7 @@ pub fn read_all(text: &mut [u8]) -> Input
     while n < most {
         let got = libc::read(STDIN_FILENO, &mut text[n..]);
         if got < 0 {
-            os::fail(b"settle: standard input");
+            os::fail(told);
             return Input::Failed;
         }
         let more = io::count(got, &text[n..]);
