@@ -20,6 +20,8 @@ use Rattle.monthfile.specs.declared.reading.Reading.the-variants.{Accepted, Ref
 use Rattle.runs.specs.Runs.{InputWithin, Counted, Begins, Buffers, Lies, GoesTo, GoesOn}
 use Rattle.runs.specs.declared.input.Input.{Input}
 use Rattle.runs.specs.declared.input.Input.the-variants.{Text}
+use Rattle.runs.specs.declared.begin.Begun.{Begun}
+use Rattle.runs.specs.declared.begin.Begun.the-variants.{File}
 use Rattle.runs.specs.declared.begin.Step.{Step}
 use Rattle.runs.specs.declared.begin.Step.the-variants.{Next, Over}
 
@@ -55,6 +57,9 @@ module _
   file-counts =
       counted (length ags) (length us) t from h
       (subst (λ (k : ℕ). Accepted h ≡ answered (reading (slices (length ags) (length us) k) t from)) n (sym e ∙ x .answer))
+
+pub begun-counts : {a u from most : ℕ} {h : Header} {l : Ledger} {b : Begun} → Begins a u from most b → b ≡ File h l → Counted a u from most h
+begun-counts {a} {u} {from} {most} g e = subst (Begins a u from most) e g
 
 pub same-buffers :
     {ags us ags′ us′ : List (List ℤ)} {held cells held′ cells′ : List ℤ}

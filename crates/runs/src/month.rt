@@ -1,4 +1,4 @@
-// One month, read and closed with its points in an array of records. Only these two functions lend a slice of points.
+// One month, read, closed and stated with its points in an array of records. Only these three functions lend a slice of points.
 ghost use mathlib.Core.Path.{_≡_};
 ghost use mathlib.Core.List.{[]};
 ghost use Prim.Native.Nat.{_≤_, _<_};
@@ -6,11 +6,13 @@ ghost use lib.ListN.{take};
 ghost use Rattle.rules.specs.Lines.{pointOf, monthLines};
 ghost use Rattle.rules.specs.Calls.{Closes};
 ghost use Rattle.monthfile.specs.Reads.{Reads};
+ghost use Rattle.statement.specs.Statement.{States};
 ghost use Rattle.runs.specs.Runs.{noPoints};
 use monthfile::reading::Reading;
 use rules::Ledger;
 use rules::Outcome;
 use rules::Point;
+use statement::Stated;
 
 // What reading answered, and the points that it wrote.
 pub struct Month {
@@ -76,6 +78,38 @@ pub fn close(
         &points[..n],
         cells,
         work,
+    )
+}
+
+// States a month with the first n of the points that were read.
+pub fn state(
+    ledger: Ledger,
+    held: &[i64],
+    month: i64,
+    ons: i64,
+    agents: &[[i64; 7]],
+    users: &[[i64; 3]],
+    m: Month,
+    n: usize,
+    point_rows: &mut [[i64; 2]],
+    user_rows: &mut [[i64; 9]],
+    payee_rows: &mut [[i64; 5]],
+) -> Stated
+    requires { ⌜ n ≤ 256 ⌝ }
+    ensures { λ r. ⌜ States ledger (now (held .entry)) (monthLines month ons (now (agents .entry)) (now (users .entry)) (take n (m .points))) (now («point_rows» .entry)) (now («user_rows» .entry)) (now («payee_rows» .entry)) r (now («point_rows» .exit)) (now («user_rows» .exit)) (now («payee_rows» .exit)) ⌝ }
+{
+    let points = m.points;
+    statement::state(
+        ledger,
+        held,
+        month,
+        ons,
+        agents,
+        users,
+        &points[..n],
+        point_rows,
+        user_rows,
+        payee_rows,
     )
 }
 
