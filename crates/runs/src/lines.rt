@@ -38,7 +38,7 @@ pub fn put_number(line: &mut [u8], at: usize, n: u64) -> usize
 }
 
 // An amount without its sign, also that of the least.
-fn size(x: i64) -> u64 {
+pub fn size(x: i64) -> u64 {
     if x < 0 {
         return (-(x + 1)) as u64 + 1;
     }

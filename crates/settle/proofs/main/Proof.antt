@@ -18,6 +18,9 @@ buffer-requires c κs = search needs
 slice-aggregate-read-all : tie.Need-slice-aggregate-read-all
 slice-aggregate-read-all c = search needs
 
+slice-aggregate-read-all-2 : tie.Need-slice-aggregate-read-all-2
+slice-aggregate-read-all-2 c = search needs
+
 read-all-requires : tie.Need-read-all-requires
 read-all-requires c κs = search needs
 
@@ -60,6 +63,7 @@ main-spec =
     returns
     buffer-requires
     slice-aggregate-read-all
+    slice-aggregate-read-all-2
     read-all-requires
     enum-known-got
     array-share-prefix-text
