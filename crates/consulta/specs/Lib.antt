@@ -1,0 +1,2 @@
+-- `Rooms` is where the rows of a month lie. What is printed is tested and not proved.
+pub mod Rooms
