@@ -173,6 +173,7 @@ fn closed(
     )
 }
 
+// One file: begun, stated and closed.
 fn file(
     text: &[u8],
     at: usize,
@@ -198,6 +199,7 @@ fn file(
     }
 }
 
+// Files up to the end of the text. Each begins further on than the one before, so that the run ends.
 fn files(
     text: &[u8],
     agents: &mut [[i64; 7]],
@@ -225,7 +227,7 @@ fn files(
     }
 }
 
-// The buffers: 16 agents, 64 users, 17 × 64 cells and twice that plus 4 × (17 + 64) of work.
+// The buffers: 16 agents, 64 users with their held credits, 17 × 64 cells, and twice that plus 4 × (17 + 64) entries of work.
 pub fn consulta(text: &[u8]) {
     let mut agents = [[0i64; 7]; 16];
     let mut users = [[0i64; 3]; 64];

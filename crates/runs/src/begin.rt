@@ -34,6 +34,7 @@ pub struct Start {
     pub month: Month,
 }
 
+// The ledger for a file: the first opens it, with its counts; a later one finds it open.
 fn opened(books: Books, users: usize, agents: usize, held: &mut [i64]) -> Outcome {
     match books {
         Books::Shut => ledger::open(users as u64, agents as u64, held),
@@ -44,6 +45,7 @@ fn opened(books: Books, users: usize, agents: usize, held: &mut [i64]) -> Outcom
     }
 }
 
+// One file up to its closing.
 pub fn begin(
     text: &[u8],
     at: usize,

@@ -10,6 +10,7 @@ use runs::begin::Books;
 use runs::begin::Step;
 use runs::month::Month;
 
+// Closes the month of a file that was begun, and prints what came of it.
 fn closed(
     h: Header,
     m: Month,
@@ -49,6 +50,7 @@ fn closed(
     Step::Over
 }
 
+// One file: begun and closed.
 fn file(
     text: &[u8],
     at: usize,
@@ -74,6 +76,7 @@ fn file(
     }
 }
 
+// Files up to the end of the text. Each begins further on than the one before, so that the run ends.
 fn files(
     text: &[u8],
     agents: &mut [[i64; 7]],
@@ -101,7 +104,7 @@ fn files(
     }
 }
 
-// The buffers: 16 agents, 64 users, 17 × 64 cells and twice that plus 4 × (17 + 64) of work.
+// The buffers: 16 agents, 64 users with their held credits, 17 × 64 cells, and twice that plus 4 × (17 + 64) entries of work.
 pub fn settle(text: &[u8]) {
     let mut agents = [[0i64; 7]; 16];
     let mut users = [[0i64; 3]; 64];

@@ -3,7 +3,7 @@ ghost use Prim.Native.Nat.{_+_, _*_, _≤_};
 ghost use lib.ListN.{length};
 use runs::lines;
 
-// The longest line has four numbers of at most 20 digits each, a sign, three commas and its end.
+// The longest line has four numbers of at most 20 digits, two of them with a sign, three commas and its end.
 const LONGEST: usize = 96;
 
 // Who receives: an agent by its number, ONS, or the user itself, as a held credit.
