@@ -9,8 +9,10 @@ ghost use Rattle.charges.specs.Scan.{ScanFinds};
 ghost use Rattle.closing.specs.Judged.{beforeLines, throughLines, ScannedTo, Billable, Weighs, Judges};
 use charges::month::Bills;
 use charges::scan::Sums;
+use rules::AgentLine;
 use rules::Answer;
 use rules::Ledger;
+use rules::UserLine;
 
 // What is found of a closing: its verdict and, of an accepted month, every user's debit and new held credit.
 pub struct Judged {
@@ -74,8 +76,8 @@ fn through_lines(
     held: &[i64],
     month: i64,
     ons: i64,
-    agents: &[[i64; 7]],
-    users: &[[i64; 3]],
+    agents: &[AgentLine],
+    users: &[UserLine],
     points: u64,
     scanned: Answer,
     cells: u64,
@@ -107,7 +109,7 @@ fn through_lines(
 }
 
 // 8, 9 and 10 of a month whose lines have passed, and its amounts. `held` has one entry for each user.
-fn weighed(held: &[i64], agents: &[[i64; 7]], users: &[[i64; 3]], s: Sums) -> Judged
+fn weighed(held: &[i64], agents: &[AgentLine], users: &[UserLine], s: Sums) -> Judged
     requires { ⌜ Billable (now held) (now agents) (now users) s ⌝ }
     ensures { λ r. ⌜ Weighs (now (held .entry)) (now (agents .entry)) (now (users .entry)) s r ⌝ }
 {
@@ -142,8 +144,8 @@ pub fn judge(
     held: &[i64],
     month: i64,
     ons: i64,
-    agents: &[[i64; 7]],
-    users: &[[i64; 3]],
+    agents: &[AgentLine],
+    users: &[UserLine],
     points: u64,
     s: Sums,
     cells: u64,

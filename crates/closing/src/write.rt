@@ -6,6 +6,7 @@ ghost use lib.ListN.{length};
 ghost use Rattle.rules.specs.Lines.{Lines};
 ghost use Rattle.closing.specs.Written.{Writable, Written};
 use charges::month::Bills;
+use rules::AgentLine;
 
 // Copies every entry.
 fn copy(from: &[i64], to: &mut [i64])
@@ -26,7 +27,7 @@ pub fn write(
     bills: Bills,
     month: i64,
     ons: i64,
-    agents: &[[i64; 7]],
+    agents: &[AgentLine],
     held: &mut [i64],
     cells: &mut [i64],
     work: &mut [u64],

@@ -5,8 +5,10 @@ ghost use Rattle.runs.specs.Runs.{Buffers, Lies, GoesTo, GoesOn};
 use crate::output;
 use crate::rows;
 use monthfile::reading::Header;
+use rules::AgentLine;
 use rules::Answer;
 use rules::Ledger;
+use rules::UserLine;
 use runs::begin::Begun;
 use runs::begin::Books;
 use runs::begin::Step;
@@ -52,8 +54,8 @@ fn settled(
     m: Month,
     ledger: Ledger,
     balance: i64,
-    agents: &[[i64; 7]],
-    users: &[[i64; 3]],
+    agents: &[AgentLine],
+    users: &[UserLine],
     point_rows: &[[i64; 2]],
     user_rows: &[[i64; 9]],
     payee_rows: &[[i64; 5]],
@@ -98,8 +100,8 @@ fn stated(
     h: Header,
     m: Month,
     ledger: Ledger,
-    agents: &[[i64; 7]],
-    users: &[[i64; 3]],
+    agents: &[AgentLine],
+    users: &[UserLine],
     held: &mut [i64],
     cells: &mut [i64],
     work: &mut [u64],
@@ -144,8 +146,8 @@ fn closed(
     h: Header,
     m: Month,
     ledger: Ledger,
-    agents: &[[i64; 7]],
-    users: &[[i64; 3]],
+    agents: &[AgentLine],
+    users: &[UserLine],
     held: &mut [i64],
     cells: &mut [i64],
     work: &mut [u64],
@@ -178,8 +180,8 @@ fn file(
     text: &[u8],
     at: usize,
     books: Books,
-    agents: &mut [[i64; 7]],
-    users: &mut [[i64; 3]],
+    agents: &mut [AgentLine],
+    users: &mut [UserLine],
     held: &mut [i64],
     cells: &mut [i64],
     work: &mut [u64],
@@ -202,8 +204,8 @@ fn file(
 // Files up to the end of the text. Each begins further on than the one before, so that the run ends.
 fn files(
     text: &[u8],
-    agents: &mut [[i64; 7]],
-    users: &mut [[i64; 3]],
+    agents: &mut [AgentLine],
+    users: &mut [UserLine],
     held: &mut [i64],
     cells: &mut [i64],
     work: &mut [u64],

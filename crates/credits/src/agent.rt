@@ -8,6 +8,8 @@ ghost use Rattle.rules.specs.Calendar.{impossibleMonth, cycleMonth};
 ghost use Rattle.rules.specs.Lines.{Agent, agentOf};
 ghost use Rattle.rules.specs.Credits.{VMPA, VMST, ownCredit};
 ghost use Rattle.rules.proofs.Fits.{Correction, AmountsFit};
+use rules::AgentLine;
+use rules::columns;
 
 // Cycle month: July 1 to June 12. A possible month is above 0, where % is mm.
 pub fn cycle_month(month: i64) -> i64
@@ -40,17 +42,17 @@ pub fn vmpa(c: i64, pa: i64) -> i64
 }
 
 // VMST = pb − pv + afs − rfs.
-pub fn vmst(line: [i64; 7]) -> i64
+pub fn vmst(line: AgentLine) -> i64
     requires { ⌜ AmountsFit (agentOf line) ⌝ }
     ensures { λ r. ⌜ r ≡ VMST (agentOf line) ⌝ }
 {
-    line[1] - line[2] + line[3] - line[4]
+    line[columns::PB] - line[columns::PV] + line[columns::AFS] - line[columns::RFS]
 }
 
 // VMST + VMPA + ret.
-pub fn own_credit(month: i64, line: [i64; 7]) -> i64
+pub fn own_credit(month: i64, line: AgentLine) -> i64
     requires { ⌜ (impossibleMonth month ≡ false) × AmountsFit (agentOf line) ⌝ }
     ensures { λ r. ⌜ r ≡ ownCredit month (agentOf line) ⌝ }
 {
-    vmst(line) + vmpa(cycle_month(month), line[5]) + line[6]
+    vmst(line) + vmpa(cycle_month(month), line[columns::PA]) + line[columns::AGENT_RET]
 }

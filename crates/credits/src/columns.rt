@@ -7,14 +7,11 @@ ghost use Rattle.ints.specs.Adding.{Summable};
 ghost use Rattle.ints.specs.Sums.{sumℤ};
 ghost use Rattle.rules.specs.Lines.{Agent, agentOf};
 ghost use Rattle.credits.specs.Columns.{AgentLines, column};
-
-// Columns of an agent line.
-const PB: usize = 1;
-
-const PV: usize = 2;
+use rules::AgentLine;
+use rules::columns;
 
 // The sum of the column k.
-fn column_total(agents: &[[i64; 7]], k: usize) -> i64
+fn column_total(agents: &[AgentLine], k: usize) -> i64
     requires { ⌜ (k < 7) × Summable (column k (now agents)) ⌝ }
     ensures { λ r. ⌜ r ≡ sumℤ (column k (now (agents .entry))) ⌝ }
 {
@@ -29,23 +26,23 @@ fn column_total(agents: &[[i64; 7]], k: usize) -> i64
 }
 
 // The sum of all pb, of refusal 8.
-pub fn pb_total(agents: &[[i64; 7]]) -> i64
+pub fn pb_total(agents: &[AgentLine]) -> i64
     requires { ⌜ AgentLines (map agentOf (now agents)) ⌝ }
     ensures { λ r. ⌜ r ≡ sumℤ (map (λ (a : Agent). a .pb) (map agentOf (now (agents .entry)))) ⌝ }
 {
-    column_total(agents, PB)
+    column_total(agents, columns::PB)
 }
 
 // The sum of all pv, of refusal 9 and the compensation.
-pub fn pv_total(agents: &[[i64; 7]]) -> i64
+pub fn pv_total(agents: &[AgentLine]) -> i64
     requires { ⌜ AgentLines (map agentOf (now agents)) ⌝ }
     ensures { λ r. ⌜ r ≡ sumℤ (map (λ (a : Agent). a .pv) (map agentOf (now (agents .entry)))) ⌝ }
 {
-    column_total(agents, PV)
+    column_total(agents, columns::PV)
 }
 
 // Writes the column k.
-fn column(agents: &[[i64; 7]], k: usize, out: &mut [i64])
+fn column(agents: &[AgentLine], k: usize, out: &mut [i64])
     requires { ⌜ (k < 7) × (length (now out) ≡ length (now agents)) ⌝ }
     ensures { λ _. ⌜ now (out .exit) ≡ column k (now (agents .entry)) ⌝ }
 {
@@ -59,9 +56,9 @@ fn column(agents: &[[i64; 7]], k: usize, out: &mut [i64])
 }
 
 // Writes all pb, the weights of the balance.
-pub fn pbs(agents: &[[i64; 7]], out: &mut [i64])
+pub fn pbs(agents: &[AgentLine], out: &mut [i64])
     requires { ⌜ length (now out) ≡ length (now agents) ⌝ }
     ensures { λ _. ⌜ now (out .exit) ≡ map (λ (a : Agent). a .pb) (map agentOf (now (agents .entry))) ⌝ }
 {
-    column(agents, PB, out);
+    column(agents, columns::PB, out);
 }

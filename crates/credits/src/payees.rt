@@ -15,9 +15,10 @@ ghost use Rattle.rules.specs.Lists.{sideBySide};
 ghost use Rattle.rules.proofs.Fits.{Amount};
 ghost use Rattle.credits.specs.Columns.{AgentLines};
 ghost use Rattle.credits.specs.Payable.{Payable, AgentCredits, VCsFrom};
+use rules::AgentLine;
 
 // Writes VMST + VMPA + ret of each agent.
-pub fn own_credits(month: i64, agents: &[[i64; 7]], out: &mut [i64])
+pub fn own_credits(month: i64, agents: &[AgentLine], out: &mut [i64])
     requires { ⌜ (impossibleMonth month ≡ false)
         × AgentLines (map agentOf (now agents))
         × (length (now out) ≡ length (now agents)) ⌝ }
@@ -59,7 +60,7 @@ pub fn agent_credits(
     month: i64,
     ons: i64,
     debits: i64,
-    agents: &[[i64; 7]],
+    agents: &[AgentLine],
     pb: &mut [i64],
     vmant: &mut [i64],
     vc: &mut [i64],
@@ -79,7 +80,7 @@ pub fn agent_credits(
 }
 
 // Writes the credit of every payee: the agents in order, and then ONS, with ons.
-pub fn vcs(month: i64, ons: i64, debits: i64, agents: &[[i64; 7]], vc: &mut [i64])
+pub fn vcs(month: i64, ons: i64, debits: i64, agents: &[AgentLine], vc: &mut [i64])
     requires { ⌜ Payable month ons debits (map agentOf (now agents)) × (length (now vc) ≡ length (now agents) + 1) ⌝ }
     ensures { λ _. ⌜ now (vc .exit) ≡ VCsFrom month ons debits (map agentOf (now (agents .entry))) ⌝ }
 {

@@ -10,10 +10,12 @@ ghost use Rattle.rules.specs.Calls.{emptyLedger, Opens};
 ghost use Rattle.charges.specs.Scan.{ScanFinds};
 ghost use Rattle.ledger.specs.Promise.{Closed};
 use charges::scan::Sums;
+use rules::AgentLine;
 use rules::Answer;
 use rules::Ledger;
 use rules::Outcome;
 use rules::Point;
+use rules::UserLine;
 
 // Sets every entry to 0.
 fn clear(held: &mut [i64])
@@ -69,8 +71,8 @@ fn finish(
     held: &mut [i64],
     month: i64,
     ons: i64,
-    agents: &[[i64; 7]],
-    users: &[[i64; 3]],
+    agents: &[AgentLine],
+    users: &[UserLine],
     n: usize,
     s: Sums,
     cells: &mut [i64],
@@ -128,8 +130,8 @@ pub fn close(
     held: &mut [i64],
     month: i64,
     ons: i64,
-    agents: &[[i64; 7]],
-    users: &[[i64; 3]],
+    agents: &[AgentLine],
+    users: &[UserLine],
     points: &[Point],
     cells: &mut [i64],
     work: &mut [u64],

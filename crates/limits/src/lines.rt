@@ -7,7 +7,10 @@ ghost use Rattle.rules.specs.Verdict.{when, _then_, eachLine};
 ghost use Rattle.rules.specs.Lines.{agentOf, userOf, badAmount, badCorrection, badAgent, badUser};
 ghost use Rattle.rules.specs.Refusals.{creditTest, agentTest, userTest};
 ghost use Rattle.rules.specs.Calls.{verdictOf};
+use rules::AgentLine;
 use rules::Answer;
+use rules::UserLine;
+use rules::columns;
 
 // 10^11, the limit of amounts, and either way of corrections.
 const AMOUNT: i64 = 100_000_000_000;
@@ -52,19 +55,19 @@ pub fn credits_verdict(credits: &[i64]) -> Answer
 }
 
 // 5 of the agent line at position k.
-pub fn bad_agent(k: u64, line: [i64; 7]) -> bool
+pub fn bad_agent(k: u64, line: AgentLine) -> bool
     ensures { λ r. ⌜ r ≡ badAgent k (agentOf line) ⌝ }
 {
-    !is_number(line[0], k)
-        | bad_amount(line[1])
-        | bad_amount(line[2])
-        | bad_amount(line[3])
-        | bad_amount(line[4])
-        | bad_correction(line[5])
-        | bad_correction(line[6])
+    !is_number(line[columns::AGENT_NUMBER], k)
+        | bad_amount(line[columns::PB])
+        | bad_amount(line[columns::PV])
+        | bad_amount(line[columns::AFS])
+        | bad_amount(line[columns::RFS])
+        | bad_correction(line[columns::PA])
+        | bad_correction(line[columns::AGENT_RET])
 }
 
-pub fn agents_verdict(agents: &[[i64; 7]]) -> Answer
+pub fn agents_verdict(agents: &[AgentLine]) -> Answer
     ensures { λ r. ⌜ verdictOf r ≡ eachLine agentTest 1 (map agentOf (now (agents .entry))) ⌝ }
 {
     let mut i: usize = 0;
@@ -78,13 +81,15 @@ pub fn agents_verdict(agents: &[[i64; 7]]) -> Answer
 }
 
 // 5 of the user line at position k.
-pub fn bad_user(k: u64, line: [i64; 3]) -> bool
+pub fn bad_user(k: u64, line: UserLine) -> bool
     ensures { λ r. ⌜ r ≡ badUser k (userOf line) ⌝ }
 {
-    !is_number(line[0], k) | ints::outside(1, 3, line[1]) | bad_correction(line[2])
+    !is_number(line[columns::USER_NUMBER], k)
+        | ints::outside(1, 3, line[columns::KIND])
+        | bad_correction(line[columns::USER_RET])
 }
 
-pub fn users_verdict(users: &[[i64; 3]]) -> Answer
+pub fn users_verdict(users: &[UserLine]) -> Answer
     ensures { λ r. ⌜ verdictOf r ≡ eachLine userTest 1 (map userOf (now (users .entry))) ⌝ }
 {
     let mut i: usize = 0;
@@ -98,7 +103,7 @@ pub fn users_verdict(users: &[[i64; 3]]) -> Answer
 }
 
 // 5 of the ons, agent and user lines, in this order.
-pub fn lines_before_points(ons: i64, agents: &[[i64; 7]], users: &[[i64; 3]]) -> Answer
+pub fn lines_before_points(ons: i64, agents: &[AgentLine], users: &[UserLine]) -> Answer
     ensures { λ r. ⌜ verdictOf r
         ≡ (when (badAmount ons) 5 0
         then eachLine agentTest 1 (map agentOf (now (agents .entry)))

@@ -6,6 +6,8 @@ ghost use Rattle.rules.specs.Refusals.{pointTest};
 ghost use Rattle.rules.specs.Calls.{verdictOf};
 use rules::Answer;
 use rules::Point;
+use rules::UserLine;
+use rules::columns;
 
 fn bad_tariff(x: i64) -> bool
     ensures { λ r. ⌜ r ≡ badTariff x ⌝ }
@@ -48,18 +50,18 @@ pub fn unfit_point(kind: i64, p: Point) -> bool
 }
 
 // The kind of the user with this number, 0 where there is none.
-pub fn kind_of(users: &[[i64; 3]], user: i64) -> i64
+pub fn kind_of(users: &[UserLine], user: i64) -> i64
     ensures { λ r. ⌜ r ≡ kindOf (map userOf (now (users .entry))) user ⌝ }
 {
     if ints::outside(1, users.len() as i64, user) {
         return 0;
     }
     let line = users[(user - 1) as usize];
-    line[1]
+    line[columns::KIND]
 }
 
 // The point line at position k: 5, then 6, then 7.
-pub fn point_verdict(users: &[[i64; 3]], k: u64, p: Point) -> Answer
+pub fn point_verdict(users: &[UserLine], k: u64, p: Point) -> Answer
     ensures { λ r. ⌜ verdictOf r ≡ pointTest (map userOf (now (users .entry))) k p ⌝ }
 {
     if bad_point(p) {

@@ -12,7 +12,9 @@ use crate::reading::Reading;
 use crate::reading::begin;
 use crate::reading::finish;
 use crate::values::line_at;
+use rules::AgentLine;
 use rules::Point;
+use rules::UserLine;
 
 // A point, and the place after its line.
 pub struct PointLine {
@@ -71,8 +73,8 @@ pub fn points_at(text: &[u8], at: usize, room: usize, points: &mut [Point]) -> u
 pub fn read_at(
     text: &[u8],
     from: usize,
-    agents: &mut [[i64; 7]],
-    users: &mut [[i64; 3]],
+    agents: &mut [AgentLine],
+    users: &mut [UserLine],
     points: &mut [Point],
 ) -> Reading
     ensures { λ r. ⌜ Reads (now (text .entry)) from (now (agents .entry)) (now (users .entry)) (now (points .entry)) (now (agents .exit)) (now (users .exit)) (now (points .exit)) r ⌝ }

@@ -4,7 +4,9 @@ ghost use Rattle.monthfile.specs.Reads.{Reads, nextOf};
 use crate::points::read_at;
 use crate::reading::Reading;
 use crate::reading::next_of;
+use rules::AgentLine;
 use rules::Point;
+use rules::UserLine;
 
 pub struct Reader<'a> {
     pub text: &'a [u8],
@@ -14,8 +16,8 @@ pub struct Reader<'a> {
 // One file at the reader's position, which moves past it only if it is accepted.
 pub fn read<'s, 'a>(
     r: &'s mut Reader<'a>,
-    agents: &mut [[i64; 7]],
-    users: &mut [[i64; 3]],
+    agents: &mut [AgentLine],
+    users: &mut [UserLine],
     points: &mut [Point],
 ) -> Reading
     ensures { λ o. ⌜ Reads (now (now (r .entry) .text)) (now (r .entry) .at) (now (agents .entry)) (now (users .entry)) (now (points .entry)) (now (agents .exit)) (now (users .exit)) (now (points .exit)) o × ((now (r .exit) .text ≡ now (r .entry) .text) × (now (r .exit) .at ≡ nextOf o (now (r .entry) .at))) ⌝ }

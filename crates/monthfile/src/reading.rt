@@ -10,6 +10,8 @@ use crate::records::users_at;
 use crate::values::on;
 use crate::values::value_at;
 use format::Scanned;
+use rules::AgentLine;
+use rules::UserLine;
 
 // What reading answers: the month line, how many lines there are of each kind and the position after the file, or paper 01's number
 // and place.
@@ -77,8 +79,8 @@ fn up_to_points(
     text: &[u8],
     from: usize,
     next: usize,
-    agents: &mut [[i64; 7]],
-    users: &mut [[i64; 3]],
+    agents: &mut [AgentLine],
+    users: &mut [UserLine],
     room: usize,
 ) -> Started
     requires { ⌜ from ≤ length (now text) ⌝ }
@@ -115,8 +117,8 @@ fn nothing(verdict: Scanned) -> Started
 pub fn begin(
     text: &[u8],
     from: usize,
-    agents: &mut [[i64; 7]],
-    users: &mut [[i64; 3]],
+    agents: &mut [AgentLine],
+    users: &mut [UserLine],
     points: usize,
 ) -> Started
     ensures { λ r. ⌜ Begun (now (text .entry)) from (now (agents .entry)) (now (users .entry)) points (now (agents .exit)) (now (users .exit)) r ⌝ }

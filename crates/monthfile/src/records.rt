@@ -5,6 +5,8 @@ ghost use lib.ListN.{length};
 ghost use Rattle.monthfile.specs.At.{Filled, asRead};
 use crate::line::line_here;
 use crate::values::line_at;
+use rules::AgentLine;
+use rules::UserLine;
 
 // How many lines were read, and the place after them.
 pub struct Lines {
@@ -12,7 +14,7 @@ pub struct Lines {
     pub next: usize,
 }
 
-pub fn agents_at(text: &[u8], at: usize, agents: &mut [[i64; 7]]) -> Lines
+pub fn agents_at(text: &[u8], at: usize, agents: &mut [AgentLine]) -> Lines
     requires { ⌜ at ≤ length (now text) ⌝ }
     ensures { λ r. ⌜ Filled asRead (now (text .entry)) at (length (now (agents .entry))) 7 (now (agents .entry)) (now (agents .exit)) (r .count) (r .next) ⌝ }
 {
@@ -31,7 +33,7 @@ pub fn agents_at(text: &[u8], at: usize, agents: &mut [[i64; 7]]) -> Lines
     Lines { count: n, next: i }
 }
 
-pub fn users_at(text: &[u8], at: usize, users: &mut [[i64; 3]]) -> Lines
+pub fn users_at(text: &[u8], at: usize, users: &mut [UserLine]) -> Lines
     requires { ⌜ at ≤ length (now text) ⌝ }
     ensures { λ r. ⌜ Filled asRead (now (text .entry)) at (length (now (users .entry))) 3 (now (users .entry)) (now (users .exit)) (r .count) (r .next) ⌝ }
 {

@@ -7,6 +7,7 @@ ghost use Rattle.rules.specs.Lines.{userOf, pointOf};
 ghost use Rattle.charges.specs.Scan.{scanned};
 use charges::scan::Sums;
 use rules::Point;
+use rules::UserLine;
 
 // One point, taken out for the charge functions.
 pub fn point_at(points: &[Point], i: usize) -> Point
@@ -24,7 +25,7 @@ pub fn scanned_count(points: usize) -> usize
 }
 
 // The scan of the first 1,024 points: the first refusal, or the sums of every user. It writes nothing that was lent.
-pub fn scan(points: &[Point], users: &[[i64; 3]]) -> Sums
+pub fn scan(points: &[Point], users: &[UserLine]) -> Sums
     ensures { λ r. ⌜ r ≡ scanned (map userOf (now (users .entry))) (take 1024 (now (points .entry))) ⌝ }
 {
     let n = scanned_count(points.len());

@@ -1,7 +1,19 @@
-// The record types that the calls share. What they mean is in specs/: paper 01 as definitions.
+// The shapes that the calls share: lines, ledger, answers. What they mean is in specs/: paper 01 as definitions.
 
-// A connection point's line (paper 01, "A month's lines"): its user, then peak and off-peak tariff, discount, contracted and
-// verified power.
+// The month line (paper 01, "A month's lines"): yyyymm, and RMONS.
+pub struct MonthLine {
+    pub month: i64,
+    pub ons: i64,
+}
+
+// An agent's and a user's line: its values in the order of the columns, which `columns` names.
+pub type AgentLine = [i64; 7];
+
+pub type UserLine = [i64; 3];
+
+pub mod columns;
+
+// A connection point's line: its user, then peak and off-peak tariff, discount, contracted and verified power.
 pub struct Point {
     pub user: i64,
     pub tp: i64,

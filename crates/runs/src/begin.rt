@@ -6,9 +6,11 @@ use crate::month;
 use crate::month::Month;
 use monthfile::reading::Header;
 use monthfile::reading::Reading;
+use rules::AgentLine;
 use rules::Answer;
 use rules::Ledger;
 use rules::Outcome;
+use rules::UserLine;
 
 // The ledger, once the first file has opened it.
 pub enum Books {
@@ -50,8 +52,8 @@ pub fn begin(
     text: &[u8],
     at: usize,
     books: Books,
-    agents: &mut [[i64; 7]],
-    users: &mut [[i64; 3]],
+    agents: &mut [AgentLine],
+    users: &mut [UserLine],
     held: &mut [i64],
 ) -> Start
     ensures { λ r. ⌜ Begins (length (now (agents .entry))) (length (now (users .entry))) at (length (now (text .entry))) (r .begun) ⌝ }

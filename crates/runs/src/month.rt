@@ -9,9 +9,11 @@ ghost use Rattle.monthfile.specs.Reads.{Reads};
 ghost use Rattle.statement.specs.Statement.{States};
 ghost use Rattle.runs.specs.Runs.{noPoints};
 use monthfile::reading::Reading;
+use rules::AgentLine;
 use rules::Ledger;
 use rules::Outcome;
 use rules::Point;
+use rules::UserLine;
 use statement::Stated;
 
 // What reading answered, and the points that it wrote.
@@ -43,7 +45,7 @@ pub fn no_points() -> [Point; 256]
 }
 
 // Reads the file at a place: what was answered, with its points.
-pub fn read(text: &[u8], at: usize, agents: &mut [[i64; 7]], users: &mut [[i64; 3]]) -> Month
+pub fn read(text: &[u8], at: usize, agents: &mut [AgentLine], users: &mut [UserLine]) -> Month
     ensures { λ r. ⌜ Reads (now (text .entry)) at (now (agents .entry)) (now (users .entry)) noPoints (now (agents .exit)) (now (users .exit)) (r .points) (r .reading) ⌝ }
 {
     let mut points = no_points();
@@ -57,8 +59,8 @@ pub fn close(
     held: &mut [i64],
     month: i64,
     ons: i64,
-    agents: &[[i64; 7]],
-    users: &[[i64; 3]],
+    agents: &[AgentLine],
+    users: &[UserLine],
     m: Month,
     n: usize,
     cells: &mut [i64],
@@ -87,8 +89,8 @@ pub fn state(
     held: &[i64],
     month: i64,
     ons: i64,
-    agents: &[[i64; 7]],
-    users: &[[i64; 3]],
+    agents: &[AgentLine],
+    users: &[UserLine],
     m: Month,
     n: usize,
     point_rows: &mut [[i64; 2]],

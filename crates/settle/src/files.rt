@@ -3,8 +3,10 @@ ghost use lib.ListN.{length};
 ghost use Rattle.runs.specs.Runs.{Buffers, Lies, GoesTo, GoesOn};
 use crate::output;
 use monthfile::reading::Header;
+use rules::AgentLine;
 use rules::Answer;
 use rules::Ledger;
+use rules::UserLine;
 use runs::begin::Begun;
 use runs::begin::Books;
 use runs::begin::Step;
@@ -15,8 +17,8 @@ fn closed(
     h: Header,
     m: Month,
     ledger: Ledger,
-    agents: &[[i64; 7]],
-    users: &[[i64; 3]],
+    agents: &[AgentLine],
+    users: &[UserLine],
     held: &mut [i64],
     cells: &mut [i64],
     work: &mut [u64],
@@ -55,8 +57,8 @@ fn file(
     text: &[u8],
     at: usize,
     books: Books,
-    agents: &mut [[i64; 7]],
-    users: &mut [[i64; 3]],
+    agents: &mut [AgentLine],
+    users: &mut [UserLine],
     held: &mut [i64],
     cells: &mut [i64],
     work: &mut [u64],
@@ -79,8 +81,8 @@ fn file(
 // Files up to the end of the text. Each begins further on than the one before, so that the run ends.
 fn files(
     text: &[u8],
-    agents: &mut [[i64; 7]],
-    users: &mut [[i64; 3]],
+    agents: &mut [AgentLine],
+    users: &mut [UserLine],
     held: &mut [i64],
     cells: &mut [i64],
     work: &mut [u64],

@@ -18,9 +18,11 @@ ghost use Rattle.statement.specs.Writes.{Found, Writable, Written};
 use crate::points::Charged;
 use charges::month::Bills;
 use charges::scan::Sums;
+use rules::AgentLine;
 use rules::Answer;
 use rules::Ledger;
 use rules::Point;
+use rules::UserLine;
 
 // The answer, with the balance SMSE of an accepted month, 0 of a refused one.
 pub struct Stated {
@@ -103,8 +105,8 @@ fn counts_verdict(
 fn write(
     month: i64,
     ons: i64,
-    agents: &[[i64; 7]],
-    users: &[[i64; 3]],
+    agents: &[AgentLine],
+    users: &[UserLine],
     held: &[i64],
     s: Sums,
     c: Charged,
@@ -132,8 +134,8 @@ fn finish(
     held: &[i64],
     month: i64,
     ons: i64,
-    agents: &[[i64; 7]],
-    users: &[[i64; 3]],
+    agents: &[AgentLine],
+    users: &[UserLine],
     n: usize,
     s: Sums,
     c: Charged,
@@ -206,8 +208,8 @@ pub fn state(
     held: &[i64],
     month: i64,
     ons: i64,
-    agents: &[[i64; 7]],
-    users: &[[i64; 3]],
+    agents: &[AgentLine],
+    users: &[UserLine],
     points: &[Point],
     point_rows: &mut [[i64; 2]],
     user_rows: &mut [[i64; 9]],

@@ -10,9 +10,11 @@ ghost use Rattle.credits.specs.Columns.{AgentLines};
 ghost use Rattle.credits.specs.Payable.{Payable};
 ghost use Rattle.statement.specs.Statement.{agentRowsOf};
 ghost use Rattle.statement.specs.Columns.{StatesPayees};
+use rules::AgentLine;
+use rules::columns;
 
 // Writes a row for each agent, from its line and the columns.
-fn rows(month: i64, agents: &[[i64; 7]], vmant: &[i64], vc: &[i64], out: &mut [[i64; 5]])
+fn rows(month: i64, agents: &[AgentLine], vmant: &[i64], vc: &[i64], out: &mut [[i64; 5]])
     requires { ⌜ (impossibleMonth month ≡ false)
         × AgentLines (map agentOf (now agents))
         × (length (now vmant) ≡ length (now agents))
@@ -26,8 +28,8 @@ fn rows(month: i64, agents: &[[i64; 7]], vmant: &[i64], vc: &[i64], out: &mut [[
     while i < n {
         let line = agents[i];
         let own = credits::agent::vmst(line);
-        let adjustment = credits::agent::vmpa(c, line[5]);
-        let row = [own, adjustment, vmant[i], line[6], vc[i]];
+        let adjustment = credits::agent::vmpa(c, line[columns::PA]);
+        let row = [own, adjustment, vmant[i], line[columns::AGENT_RET], vc[i]];
         out[i] = row;
         i += 1;
     }
@@ -39,7 +41,7 @@ fn work_out(
     month: i64,
     ons: i64,
     debits: i64,
-    agents: &[[i64; 7]],
+    agents: &[AgentLine],
     pb: &mut [i64],
     vmant: &mut [i64],
     vc: &mut [i64],
@@ -65,7 +67,7 @@ pub fn state_payees(
     month: i64,
     ons: i64,
     debits: i64,
-    agents: &[[i64; 7]],
+    agents: &[AgentLine],
     out: &mut [[i64; 5]],
 ) -> i64
     requires { ⌜ Payable month ons debits (map agentOf (now agents)) × (length (now out) ≡ length (now agents) + 1) ⌝ }

@@ -5,6 +5,7 @@ ghost use lib.ListN.{length, set};
 ghost use Rattle.rules.specs.Lines.{userOf};
 ghost use Rattle.statement.specs.Rows.{chargedAt, noneCharged, chargedPoints, pairs};
 use rules::Point;
+use rules::UserLine;
 
 // What is charged for each point, by its place: use charge and overrun.
 pub struct Charged {
@@ -32,7 +33,7 @@ fn put(xs: &mut [i64], i: usize, x: i64)
 }
 
 // One more point, at place i. One with a value out of range is left out: its month is refused.
-pub fn step(c: Charged, users: &[[i64; 3]], i: usize, p: Point) -> Charged
+pub fn step(c: Charged, users: &[UserLine], i: usize, p: Point) -> Charged
     ensures { λ r. ⌜ r ≡ chargedAt (map userOf (now (users .entry))) i p c ⌝ }
 {
     if limits::points::bad_point(p) {
@@ -47,7 +48,7 @@ pub fn step(c: Charged, users: &[[i64; 3]], i: usize, p: Point) -> Charged
 }
 
 // What is charged for each of the first 1,024 points.
-pub fn charge(points: &[Point], users: &[[i64; 3]]) -> Charged
+pub fn charge(points: &[Point], users: &[UserLine]) -> Charged
     ensures { λ r. ⌜ r ≡ chargedPoints (map userOf (now (users .entry))) (now (points .entry)) ⌝ }
 {
     let n = records::scanned_count(points.len());

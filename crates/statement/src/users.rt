@@ -7,10 +7,12 @@ ghost use Rattle.statement.specs.Statement.{userRows};
 ghost use Rattle.statement.specs.Columns.{UserColumns, userRowsBy, Owed, OwedBy};
 use charges::month::Bills;
 use charges::scan::Sums;
+use rules::UserLine;
+use rules::columns;
 
 // Writes a row for each user, from the columns.
 fn rows(
-    users: &[[i64; 3]],
+    users: &[UserLine],
     uses: &[i64],
     overruns: &[i64],
     vme: &[i64],
@@ -31,7 +33,7 @@ fn rows(
         let row = [
             uses[i],
             overruns[i],
-            line[2],
+            line[columns::USER_RET],
             vme[i],
             cpv[i],
             held[i],
@@ -46,7 +48,7 @@ fn rows(
 
 // Works out VME and CPV of every user, and writes the rows. Every slice has one entry for each user; `cpv` comes in as zeros.
 fn work_out(
-    users: &[[i64; 3]],
+    users: &[UserLine],
     uses: &[i64],
     overruns: &[i64],
     pv: i64,
@@ -71,7 +73,7 @@ fn work_out(
 
 // Writes the rows of a month that breaks no limit: s is what the scan of its points has found, pv the sum of all pv.
 pub fn state_users(
-    users: &[[i64; 3]],
+    users: &[UserLine],
     s: Sums,
     bills: Bills,
     pv: i64,
