@@ -14,26 +14,11 @@ use Rattle.charges_main.proofs.correction.Tie as tie
 fits : (n k : ℕ) → n < 200000000001 → k ≤ 100000000000 → SFits w64 (toZ w64 n -ℤ pos k)
 fits n k h g = rw (toZ-pos w64 {n = n} (omega arith)) (omega (za, sub# (pos n) (pos k)))
 
-cast-result : tie.Need-cast-result
-cast-result c = search needs
-
 sub-result : tie.Need-sub-result
 sub-result c =
     let x = c .before .args .x in
     let m = mod-lt x {m = 12} (omega arith) in
     fits (x % 12) 6 (omega arith) (omega arith)
-
-returns : tie.Need-returns
-returns c = search needs
-
-returns-2 : tie.Need-returns-2
-returns-2 c = search needs
-
-returns-3 : tie.Need-returns-3
-returns-3 c = search needs
-
-cast-result-2 : tie.Need-cast-result-2
-cast-result-2 c = search needs
 
 sub-result-2 : tie.Need-sub-result-2
 sub-result-2 c =
@@ -41,32 +26,23 @@ sub-result-2 c =
     let m = mod-lt x {m = 100000000000} (omega arith) in
     fits (x % 100000000000) 100000000000 (omega arith) (omega arith)
 
-returns-4 : tie.Need-returns-4
-returns-4 c = search needs
-
-cast-result-3 : tie.Need-cast-result-3
-cast-result-3 c = search needs
-
 sub-result-3 : tie.Need-sub-result-3
 sub-result-3 c =
     let x = c .before .before .before .args .x in
     fits (x % 200000000001) 100000000000 (mod-lt x {m = 200000000001} (omega arith)) (omega arith)
 
-returns-5 : tie.Need-returns-5
-returns-5 c = search needs
-
 pub correction-spec : {M : Type 1} → statement M
 correction-spec =
     tie.close
     (tie.spec
-    cast-result
+    (λ c. search needs)
     sub-result
-    returns
-    returns-2
-    returns-3
-    cast-result-2
+    (λ c. search needs)
+    (λ c. search needs)
+    (λ c. search needs)
+    (λ c. search needs)
     sub-result-2
-    returns-4
-    cast-result-3
+    (λ c. search needs)
+    (λ c. search needs)
     sub-result-3
-    returns-5)
+    (λ c. search needs))

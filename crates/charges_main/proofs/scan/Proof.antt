@@ -6,21 +6,6 @@ use Rattle.charges.specs.Scan.{scannedFrom}
 use Rattle.charges_main.proofs.scan.Statement.{statement}
 use Rattle.charges_main.proofs.scan.Tie as tie
 
-no-points-requires : tie.Need-no-points-requires
-no-points-requires c κs = search needs
-
-step-requires : tie.Need-step-requires
-step-requires c κs = search needs
-
-step-requires-2 : tie.Need-step-requires-2
-step-requires-2 c κs = search needs
-
-step-requires-3 : tie.Need-step-requires-3
-step-requires-3 c κs = search needs
-
-step-requires-4 : tie.Need-step-requires-4
-step-requires-4 c κs = search needs
-
 returns : tie.Need-returns
 unfolding scannedFrom
 returns c =
@@ -35,9 +20,9 @@ pub scan-spec : {M : Type 1} → statement M
 scan-spec =
     tie.close
     (tie.spec
-    no-points-requires
-    step-requires
-    step-requires-2
-    step-requires-3
-    step-requires-4
+    (λ c κs. search needs)
+    (λ c κs. search needs)
+    (λ c κs. search needs)
+    (λ c κs. search needs)
+    (λ c κs. search needs)
     returns)

@@ -33,39 +33,6 @@ use Rattle.credits.proofs.Tested.{agent-lines}
 use Rattle.charges_main.proofs.show_bills.Statement.{statement}
 use Rattle.charges_main.proofs.show_bills.Tie as tie
 
-enum-told : tie.Need-enum-told
-enum-told c = search needs
-
-enum-told-2 : tie.Need-enum-told-2
-enum-told-2 c = search needs
-
-returns : tie.Need-returns
-returns c = search needs
-
-lines-before-points-requires : tie.Need-lines-before-points-requires
-lines-before-points-requires c κs = search needs
-
-enum-told-3 : tie.Need-enum-told-3
-enum-told-3 c = search needs
-
-enum-told-4 : tie.Need-enum-told-4
-enum-told-4 c = search needs
-
-returns-2 : tie.Need-returns-2
-returns-2 c = search needs
-
-credits-verdict-requires : tie.Need-credits-verdict-requires
-credits-verdict-requires c κs = search needs
-
-enum-told-5 : tie.Need-enum-told-5
-enum-told-5 c = search needs
-
-enum-told-6 : tie.Need-enum-told-6
-enum-told-6 c = search needs
-
-returns-3 : tie.Need-returns-3
-returns-3 c = search needs
-
 july : impossibleMonth (pos 202407) ≡ false
 unfolding impossibleMonth monthOfYear outside floor
 july = refl
@@ -132,18 +99,6 @@ total-requires c κs =
     let d = c .before .before .before in
     rw (scan-is d) (uses-asked (pos 202407) (pos 0) (agents d) (users d) (points d) (held d) (tested d))
 
-no-weights-requires : tie.Need-no-weights-requires
-no-weights-requires c κs = search needs
-
-slice-aggregate-put : tie.Need-slice-aggregate-put
-slice-aggregate-put c = search needs
-
-put-requires : tie.Need-put-requires
-put-requires c κs = search needs
-
-returns-4 : tie.Need-returns-4
-returns-4 c = search needs
-
 moved :
     (users : List (List ℤ)) {s s′ : Sums} {pv pv′ : ℤ} {held : List ℤ} {l : Lines}
     → s ≡ s′
@@ -187,35 +142,29 @@ module _ (c : tie.Else1) where
 bill-requires : tie.Need-bill-requires
 bill-requires c κs = (l (d c), month c)
 
-show-amounts-requires : tie.Need-show-amounts-requires
-show-amounts-requires c κs = search needs
-
-returns-5 : tie.Need-returns-5
-returns-5 c = search needs
-
 pub show-bills-spec : {M : Type 1} → statement M
 show-bills-spec =
     tie.close
     (tie.spec
-    enum-told
-    enum-told-2
-    returns
-    lines-before-points-requires
-    enum-told-3
-    enum-told-4
-    returns-2
-    credits-verdict-requires
-    enum-told-5
-    enum-told-6
-    returns-3
+    (λ c. search needs)
+    (λ c. search needs)
+    (λ c. search needs)
+    (λ c κs. search needs)
+    (λ c. search needs)
+    (λ c. search needs)
+    (λ c. search needs)
+    (λ c κs. search needs)
+    (λ c. search needs)
+    (λ c. search needs)
+    (λ c. search needs)
     pv-total-requires
     array-share-prefix-uses
     slice-aggregate-total
     total-requires
-    no-weights-requires
-    slice-aggregate-put
-    put-requires
-    returns-4
+    (λ c κs. search needs)
+    (λ c. search needs)
+    (λ c κs. search needs)
+    (λ c. search needs)
     bill-requires
-    show-amounts-requires
-    returns-5)
+    (λ c κs. search needs)
+    (λ c. search needs))

@@ -11,18 +11,6 @@ use Rattle.rules.proofs.BoundsAgent.{correction}
 use Rattle.credits_main.proofs.agent_row.Statement.{statement}
 use Rattle.credits_main.proofs.agent_row.Tie as tie
 
-vmst-requires : tie.Need-vmst-requires
-vmst-requires c κs = search needs
-
-amount-requires : tie.Need-amount-requires
-amount-requires c κs = search needs
-
-cycle-month-requires : tie.Need-cycle-month-requires
-cycle-month-requires c κs = search needs
-
-array-copy-out-vmpa : tie.Need-array-copy-out-vmpa
-array-copy-out-vmpa c = search needs
-
 vmpa-requires : tie.Need-vmpa-requires
 vmpa-requires c κs =
     let s = c .before .before .before .before in
@@ -31,28 +19,16 @@ vmpa-requires c κs =
     let e : c .before .cycle-month .result ≡ cycleMonth m = rw (toZ-ofZ (s .fits .month)) at (c .before .cycle-month .ensures) in
     rw (toZ-ofZ f, e, toZ-ofZ (correction (s .pre .1 .pa) .fits)) (cycle-within m (possible m (s .pre .0)), s .pre .1 .pa)
 
-amount-requires-2 : tie.Need-amount-requires-2
-amount-requires-2 c κs = search needs
-
-amount-requires-3 : tie.Need-amount-requires-3
-amount-requires-3 c κs = search needs
-
-amount-requires-4 : tie.Need-amount-requires-4
-amount-requires-4 c κs = search needs
-
-returns : tie.Need-returns
-returns c = search needs
-
 pub agent-row-spec : {M : Type 1} → statement M
 agent-row-spec =
     tie.close
     (tie.spec
-    vmst-requires
-    amount-requires
-    cycle-month-requires
-    array-copy-out-vmpa
+    (λ c κs. search needs)
+    (λ c κs. search needs)
+    (λ c κs. search needs)
+    (λ c. search needs)
     vmpa-requires
-    amount-requires-2
-    amount-requires-3
-    amount-requires-4
-    returns)
+    (λ c κs. search needs)
+    (λ c κs. search needs)
+    (λ c κs. search needs)
+    (λ c. search needs))

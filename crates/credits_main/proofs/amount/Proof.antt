@@ -30,12 +30,6 @@ module _ {x : ℤ} (f : SFits w64 x) (e : ltZ x (pos 0) ≡ true) where
 below : (c : tie.After-put) → ltZ (c .before .before .before .args .x) (pos 0) ≡ true
 below c = let s = c .before .before .before in simp (toZ-ofZ, s .fits .x) at (c .before .before .if1 .taken)
 
-slice-aggregate-put : tie.Need-slice-aggregate-put
-slice-aggregate-put c = search needs
-
-put-requires : tie.Need-put-requires
-put-requires c κs = search needs
-
 add-print-decimal : tie.Need-add-print-decimal
 add-print-decimal c = let f = c .before .before .before .fits .x in simp (toZ-ofZ, f) (after f (below c))
 
@@ -48,41 +42,23 @@ cast-print-decimal c = let f = c .before .before .before .fits .x in simp (toZ-o
 add-print-decimal-2 : tie.Need-add-print-decimal-2
 add-print-decimal-2 c = let f = c .before .before .before .fits .x in simp (toZ-ofZ, f, after f (below c), opposite f (below c)) (more f (below c))
 
-print-decimal-requires : tie.Need-print-decimal-requires
-print-decimal-requires c κs = search needs
-
-returns : tie.Need-returns
-returns c = search needs
-
-slice-aggregate-put-2 : tie.Need-slice-aggregate-put-2
-slice-aggregate-put-2 c = search needs
-
-put-requires-2 : tie.Need-put-requires-2
-put-requires-2 c κs = search needs
-
 cast-print-decimal-2 : tie.Need-cast-print-decimal-2
 cast-print-decimal-2 c = let f = c .before .before .before .fits .x in simp (toZ-ofZ, f) (omega (za, back# f))
-
-print-decimal-requires-2 : tie.Need-print-decimal-requires-2
-print-decimal-requires-2 c κs = search needs
-
-returns-2 : tie.Need-returns-2
-returns-2 c = search needs
 
 pub amount-spec : {M : Type 1} → statement M
 amount-spec =
     tie.close
     (tie.spec
-    slice-aggregate-put
-    put-requires
+    (λ c. search needs)
+    (λ c κs. search needs)
     add-print-decimal
     sub-print-decimal
     cast-print-decimal
     add-print-decimal-2
-    print-decimal-requires
-    returns
-    slice-aggregate-put-2
-    put-requires-2
+    (λ c κs. search needs)
+    (λ c. search needs)
+    (λ c. search needs)
+    (λ c κs. search needs)
     cast-print-decimal-2
-    print-decimal-requires-2
-    returns-2)
+    (λ c κs. search needs)
+    (λ c. search needs))

@@ -17,43 +17,25 @@ less {x} most n h k w =
     let f : SFits w64 x = omega za in
     rw (toZ-ofZ f) (omega (za, sub# x (pos n)))
 
-value-requires : tie.Need-value-requires
-value-requires c κs = search needs
-
 sub-result : tie.Need-sub-result
 sub-result c = less 11 6 (omega arith) (omega arith) (c .value .ensures)
-
-returns : tie.Need-returns
-returns c = search needs
-
-value-requires-2 : tie.Need-value-requires-2
-value-requires-2 c κs = search needs
 
 sub-result-2 : tie.Need-sub-result-2
 sub-result-2 c = less 99999999999 100000000000 (omega arith) (omega arith) (c .value2 .ensures)
 
-returns-2 : tie.Need-returns-2
-returns-2 c = search needs
-
-value-requires-3 : tie.Need-value-requires-3
-value-requires-3 c κs = search needs
-
 sub-result-3 : tie.Need-sub-result-3
 sub-result-3 c = less 200000000000 100000000000 (omega arith) (omega arith) (c .value3 .ensures)
-
-returns-3 : tie.Need-returns-3
-returns-3 c = search needs
 
 pub correction-spec : {M : Type 1} → statement M
 correction-spec =
     tie.close
     (tie.spec
-    value-requires
+    (λ c κs. search needs)
     sub-result
-    returns
-    value-requires-2
+    (λ c. search needs)
+    (λ c κs. search needs)
     sub-result-2
-    returns-2
-    value-requires-3
+    (λ c. search needs)
+    (λ c κs. search needs)
     sub-result-3
-    returns-3)
+    (λ c. search needs))

@@ -21,35 +21,17 @@ lines c =
     let d = c .before .before in
     accepted-lines _ (rw length-map (d .before .if4 .left)) (sym (d .agents-verdict .ensures) ∙ ap verdictOf (c .enum-told2 .given .1))
 
-impossible-month-requires : tie.Need-impossible-month-requires
-impossible-month-requires c κs = search needs
-
 returns : tie.Need-returns
 returns c e = absurd (false≢true e)
 
-bad-amount-requires : tie.Need-bad-amount-requires
-bad-amount-requires c κs = search needs
-
 returns-2 : tie.Need-returns-2
 returns-2 c e = absurd (false≢true e)
-
-outside-requires : tie.Need-outside-requires
-outside-requires c κs = search needs
 
 returns-3 : tie.Need-returns-3
 returns-3 c e = absurd (false≢true e)
 
 returns-4 : tie.Need-returns-4
 returns-4 c e = absurd (false≢true e)
-
-agents-verdict-requires : tie.Need-agents-verdict-requires
-agents-verdict-requires c κs = search needs
-
-enum-told : tie.Need-enum-told
-enum-told c = search needs
-
-enum-told-2 : tie.Need-enum-told-2
-enum-told-2 c = search needs
 
 pb-total-requires : tie.Need-pb-total-requires
 pb-total-requires c κs = lines c
@@ -78,16 +60,16 @@ pub payable-spec : {M : Type 1} → statement M
 payable-spec =
     tie.close
     (tie.spec
-    impossible-month-requires
+    (λ c κs. search needs)
     returns
-    bad-amount-requires
+    (λ c κs. search needs)
     returns-2
-    outside-requires
+    (λ c κs. search needs)
     returns-3
     returns-4
-    agents-verdict-requires
-    enum-told
-    enum-told-2
+    (λ c κs. search needs)
+    (λ c. search needs)
+    (λ c. search needs)
     pb-total-requires
     returns-5
     returns-6)

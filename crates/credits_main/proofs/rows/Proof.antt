@@ -17,41 +17,11 @@ abbrev μ-loop : tie.MeasureT-loop
 loop-holds : tie.Need-loop-holds Inv-loop μ-loop
 loop-holds c = omega arith
 
-mul-agent-row : tie.Need-mul-agent-row Inv-loop μ-loop
-mul-agent-row c = search needs
-
-shared-slice-copy-out-agent-row : tie.Need-shared-slice-copy-out-agent-row Inv-loop μ-loop
-shared-slice-copy-out-agent-row c = search needs
-
-mul-agent-row-2 : tie.Need-mul-agent-row-2 Inv-loop μ-loop
-mul-agent-row-2 c = search needs
-
-shared-slice-copy-out-agent-row-2 : tie.Need-shared-slice-copy-out-agent-row-2 Inv-loop μ-loop
-shared-slice-copy-out-agent-row-2 c = search needs
-
-mul-agent-row-3 : tie.Need-mul-agent-row-3 Inv-loop μ-loop
-mul-agent-row-3 c = search needs
-
-shared-slice-copy-out-agent-row-3 : tie.Need-shared-slice-copy-out-agent-row-3 Inv-loop μ-loop
-shared-slice-copy-out-agent-row-3 c = search needs
-
 agent-row-requires : tie.Need-agent-row-requires Inv-loop μ-loop
 agent-row-requires c κs =
     let s = c .before .before .before .before .before in
     let b = c .before .before .before in
     rw (toZ-ofZ (s .fits .month)) (s .pre .0, line-at (s .args .agents .now) (s .pre .1) (b .before .loop .i) (b .loop-test .taken))
-
-add-i : tie.Need-add-i Inv-loop μ-loop
-add-i c = search needs
-
-loop-less : tie.Need-loop-less Inv-loop μ-loop
-loop-less c = search needs
-
-loop-again : tie.Need-loop-again Inv-loop μ-loop
-loop-again c = search needs
-
-returns : tie.Need-returns Inv-loop μ-loop
-returns c = search needs
 
 pub rows-spec : {M : Type 1} → statement M
 rows-spec =
@@ -60,14 +30,14 @@ rows-spec =
     Inv-loop
     μ-loop
     loop-holds
-    mul-agent-row
-    shared-slice-copy-out-agent-row
-    mul-agent-row-2
-    shared-slice-copy-out-agent-row-2
-    mul-agent-row-3
-    shared-slice-copy-out-agent-row-3
+    (λ c. search needs)
+    (λ c. search needs)
+    (λ c. search needs)
+    (λ c. search needs)
+    (λ c. search needs)
+    (λ c. search needs)
     agent-row-requires
-    add-i
-    loop-less
-    loop-again
-    returns)
+    (λ c. search needs)
+    (λ c. search needs)
+    (λ c. search needs)
+    (λ c. search needs))

@@ -15,26 +15,14 @@ use Rattle.credits_main.proofs.value.Tie as tie
 upto : (n most : ℕ) → n ≤ most → most ≤ 2000000000000000 → Within (pos 0) (pos most) (toZ w64 n)
 upto n most h k = rw (toZ-pos w64 {n = n} (omega arith)) (record { above = omega za; below = omega za })
 
-cast-result : tie.Need-cast-result
-cast-result c = search needs
-
 returns : tie.Need-returns
 returns c = let a = c .before .args in let m = mod-lt (a .x) {m = 12} (omega arith) in upto (a .x % 12) (a .most) (omega arith) (omega arith)
-
-cast-result-2 : tie.Need-cast-result-2
-cast-result-2 c = search needs
 
 returns-2 : tie.Need-returns-2
 returns-2 c = record { above = omega za; below = omega za }
 
 returns-3 : tie.Need-returns-3
 returns-3 c = let a = c .before .before .before .args in upto (a .most) (a .most) (omega arith) (omega arith)
-
-add-result : tie.Need-add-result
-add-result c = search needs
-
-rem-result : tie.Need-rem-result
-rem-result c = search needs
 
 cast-result-3 : tie.Need-cast-result-3
 cast-result-3 c = let a = c .before .before .args in omega (za, mod-lt (a .x) {m = a .most + 1} (omega arith))
@@ -46,12 +34,12 @@ pub value-spec : {M : Type 1} → statement M
 value-spec =
     tie.close
     (tie.spec
-    cast-result
+    (λ c. search needs)
     returns
-    cast-result-2
+    (λ c. search needs)
     returns-2
     returns-3
-    add-result
-    rem-result
+    (λ c. search needs)
+    (λ c. search needs)
     cast-result-3
     returns-4)

@@ -17,17 +17,8 @@ abbrev μ-loop : tie.MeasureT-loop
 loop-holds : tie.Need-loop-holds Inv-loop μ-loop
 loop-holds c = filling-none _ _
 
-mul-held : tie.Need-mul-held Inv-loop μ-loop
-mul-held c = search needs
-
 slice-set-of-held : tie.Need-slice-set-of-held Inv-loop μ-loop
 slice-set-of-held c = omega (arith, filling-long (length-replicate _ _) (c .before .loop .inv))
-
-add-i : tie.Need-add-i Inv-loop μ-loop
-add-i c = search needs
-
-loop-less : tie.Need-loop-less Inv-loop μ-loop
-loop-less c = search needs
 
 loop-again : tie.Need-loop-again Inv-loop μ-loop
 loop-again c =
@@ -49,10 +40,10 @@ clear-spec =
     Inv-loop
     μ-loop
     loop-holds
-    mul-held
+    (λ c. search needs)
     slice-set-of-held
-    add-i
-    loop-less
+    (λ c. search needs)
+    (λ c. search needs)
     loop-again
     same-length
     returns)

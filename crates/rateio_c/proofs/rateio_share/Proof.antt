@@ -8,12 +8,6 @@ use Rattle.share.specs.Answer.{seenByC}
 use Rattle.rateio_c.proofs.rateio_share.Statement.{statement}
 use Rattle.rateio_c.proofs.rateio_share.Tie as tie
 
-part-requires : tie.Need-part-requires
-part-requires c κs = search needs
-
-seen-by-c-requires : tie.Need-seen-by-c-requires
-seen-by-c-requires c κs = search needs
-
 returns : tie.Need-returns
 returns c =
     let f = c .before .before .fits in
@@ -21,4 +15,4 @@ returns c =
     toZ-ofZ g ∙ c .seen-by-c .ensures ∙ ap seenByC (simp (toZ-ofZ, f .p, f .before, f .through, f .w) at (c .before .part .ensures))
 
 pub rateio-share-spec : {M : Type 1} → statement M
-rateio-share-spec = tie.close (tie.spec part-requires seen-by-c-requires returns)
+rateio-share-spec = tie.close (tie.spec (λ c κs. search needs) (λ c κs. search needs) returns)

@@ -75,9 +75,6 @@ below-zero c =
 not-below : (c : tie.Else1) → dn (c .before .before .before .before .args .p) ≡ 0
 not-below c = omega (za, back# (c .before .before .before .before .fits .p))
 
-size-requires : tie.Need-size-requires
-size-requires c κs = search needs
-
 scaled-requires : tie.Need-scaled-requires
 scaled-requires c κs = (c .before .pre .1, c .before .pre .2)
 
@@ -118,7 +115,7 @@ pub floor-of-spec : {M : Type 1} → statement M
 floor-of-spec =
     tie.close
     (tie.spec
-    size-requires
+    (λ c κs. search needs)
     scaled-requires
     raised-requires
     cast-up

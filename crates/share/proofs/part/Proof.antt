@@ -91,27 +91,15 @@ fine c =
     let s = c .before .before .before .before .before .before in
     limits _ _ _ _ (amount-fine (c .before .before .before .before)) (total-fine (c .before .before)) (sym (sums-are (c .before)) ∙ c .if3 .left)
 
-sub-outside : tie.Need-sub-outside
-sub-outside c = search needs
-
-outside-requires : tie.Need-outside-requires
-outside-requires c κs = search needs
-
 returns : tie.Need-returns
 returns c =
     let s = c .before .before in
     sym (amount-refused _ _ _ _ (simp (toZ-ofZ, s .fits .p) at (sym (c .before .outside .ensures) ∙ c .if1 .taken)))
 
-outside-requires-2 : tie.Need-outside-requires-2
-outside-requires-2 c κs = search needs
-
 returns-2 : tie.Need-returns-2
 returns-2 c =
     let s = c .before .before .before .before in
     sym (total-refused _ _ _ _ (amount-fine (c .before .before)) (simp (toZ-ofZ, s .fits .w) at (sym (c .before .outside2 .ensures) ∙ c .if2 .taken)))
-
-bad-sums-requires : tie.Need-bad-sums-requires
-bad-sums-requires c κs = search needs
 
 returns-3 : tie.Need-returns-3
 returns-3 c =
@@ -222,12 +210,12 @@ pub part-spec : {M : Type 1} → statement M
 part-spec =
     tie.close
     (tie.spec
-    sub-outside
-    outside-requires
+    (λ c. search needs)
+    (λ c κs. search needs)
     returns
-    outside-requires-2
+    (λ c κs. search needs)
     returns-2
-    bad-sums-requires
+    (λ c κs. search needs)
     returns-3
     cast-floor-of
     cast-floor-of-2

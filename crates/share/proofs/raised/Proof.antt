@@ -8,11 +8,8 @@ use Rattle.share.proofs.raised.Tie as tie
 returns : tie.Need-returns
 returns c = rw (c .if1 .taken)
 
-add-result : tie.Need-add-result
-add-result c = search needs
-
 returns-2 : tie.Need-returns-2
 returns-2 c = rw (ne-eqb _ 0 (c .before .if1 .left))
 
 pub raised-spec : {M : Type 1} → statement M
-raised-spec = tie.close (tie.spec returns add-result returns-2)
+raised-spec = tie.close (tie.spec returns (λ c. search needs) returns-2)

@@ -8,18 +8,6 @@ use Rattle.share.specs.Answer.{seenByC}
 use Rattle.share.proofs.seen_by_c.Statement.{statement}
 use Rattle.share.proofs.seen_by_c.Tie as tie
 
-enum-known-s : tie.Need-enum-known-s
-enum-known-s c = search needs
-
-enum-told : tie.Need-enum-told
-enum-told c = search needs
-
-enum-told-2 : tie.Need-enum-told-2
-enum-told-2 c = search needs
-
-enum-told-3 : tie.Need-enum-told-3
-enum-told-3 c = search needs
-
 returns : tie.Need-returns
 returns c =
     let f : SFits w64 (c .before .s .given .0 .0) = search needs in
@@ -37,4 +25,4 @@ returns-4 c = sym (ap seenByC (c .enum-told3 .given .1))
 pub seen-by-c-spec : {M : Type 1} → statement M
 seen-by-c-spec =
     tie.close
-    (tie.spec enum-known-s enum-told enum-told-2 enum-told-3 returns returns-2 returns-3 returns-4)
+    (tie.spec (λ c. search needs) (λ c. search needs) (λ c. search needs) (λ c. search needs) returns returns-2 returns-3 returns-4)

@@ -4,18 +4,12 @@ use borrow.Author.Needs.{needs}
 use Rattle.statement.proofs.counts_verdict.Statement.{statement}
 use Rattle.statement.proofs.counts_verdict.Tie as tie
 
-bad-counts-requires : tie.Need-bad-counts-requires
-bad-counts-requires c κs = search needs
-
 returns : tie.Need-returns
 returns c = λ credits. rw (sym (c .before .bad-counts .ensures credits) ∙ c .if1 .taken)
-
-short-rooms-requires : tie.Need-short-rooms-requires
-short-rooms-requires c κs = search needs
 
 returns-2 : tie.Need-returns-2
 returns-2 c = λ credits. rw (sym (c .before .before .bad-counts .ensures credits) ∙ c .before .if1 .left) (c .short-rooms .ensures _ _)
 
 pub counts-verdict-spec : {M : Type 1} → statement M
 counts-verdict-spec =
-    tie.close (tie.spec bad-counts-requires returns short-rooms-requires returns-2)
+    tie.close (tie.spec (λ c κs. search needs) returns (λ c κs. search needs) returns-2)

@@ -99,33 +99,6 @@ module _ (c : tie.After-enum-told2) where
   abbrev so : j .judge .result .verdict ≡ Accepted
   so = c .enum-told2 .given .1
 
-counts-verdict-requires : tie.Need-counts-verdict-requires
-counts-verdict-requires c κs = search needs
-
-enum-known-first : tie.Need-enum-known-first
-enum-known-first c = search needs
-
-refused-requires : tie.Need-refused-requires
-refused-requires c κs = search needs
-
-enum-told : tie.Need-enum-told
-enum-told c = search needs
-
-judge-requires : tie.Need-judge-requires
-judge-requires c κs = search needs
-
-enum-known-verdict : tie.Need-enum-known-verdict
-enum-known-verdict c = search needs
-
-refused-requires-2 : tie.Need-refused-requires-2
-refused-requires-2 c κs = search needs
-
-enum-told-2 : tie.Need-enum-told-2
-enum-told-2 c = search needs
-
-add-m : tie.Need-add-m
-add-m c = search needs
-
 slice-aggregate-write : tie.Need-slice-aggregate-write
 slice-aggregate-write c = let d = c .before in sym (length-take-le _ _ (held-reach (j d) (ps d) (known d) (so d)))
 
@@ -166,15 +139,6 @@ returns-2 c points f =
     let a = start d .args in
     rw (c .refused2 .ensures) (states-refused (a .ledger) (a .held .now) (l (start d) points) (a .point-rows .now) (a .user-rows .now) (a .payee-rows .now) (same-refusal d points f ∙ ap verdictOf (c .before .before .verdict .given .1)))
 
-same-length : tie.Need-same-length
-same-length c = search needs
-
-same-length-2 : tie.Need-same-length-2
-same-length-2 c = search needs
-
-same-length-3 : tie.Need-same-length-3
-same-length-3 c = search needs
-
 returns-3 : tie.Need-returns-3
 returns-3 c points f =
     let w = c .before .before .before in
@@ -192,15 +156,15 @@ pub finish-spec : {M : Type 1} → statement M
 finish-spec =
     tie.close
     (tie.spec
-    counts-verdict-requires
-    enum-known-first
-    refused-requires
-    enum-told
-    judge-requires
-    enum-known-verdict
-    refused-requires-2
-    enum-told-2
-    add-m
+    (λ c κs. search needs)
+    (λ c. search needs)
+    (λ c κs. search needs)
+    (λ c. search needs)
+    (λ c κs. search needs)
+    (λ c. search needs)
+    (λ c κs. search needs)
+    (λ c. search needs)
+    (λ c. search needs)
     slice-aggregate-write
     slice-relend-prefix-write
     slice-aggregate-write-2
@@ -211,7 +175,7 @@ finish-spec =
     write-requires
     returns
     returns-2
-    same-length
-    same-length-2
-    same-length-3
+    (λ c. search needs)
+    (λ c. search needs)
+    (λ c. search needs)
     returns-3)

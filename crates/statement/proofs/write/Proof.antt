@@ -58,9 +58,6 @@ slice-aggregate-rows-2 c = sym (length-take-le _ _ (overruns-reach (c .before .b
 rows-requires : tie.Need-rows-requires
 rows-requires c κs = let s = c .before .before .before .before .before in (length-take-le _ _ (uses-reach s), length-take-le _ _ (overruns-reach s))
 
-pv-total-requires : tie.Need-pv-total-requires
-pv-total-requires c κs = search needs
-
 state-users-requires : tie.Need-state-users-requires
 state-users-requires c κs =
     let s = c .before .before .before .before .before .before .before .before .before in
@@ -72,15 +69,6 @@ state-payees-requires c κs =
     let s = c .before .before .before .before .before .before .before .before .before .before .before .before .before in
     let w = s .pre .1 in
     rw (toZ-ofZ (s .fits .month), toZ-ofZ (s .fits .ons), toZ-ofZ (total-fits s), w .owed .billed .total) (w .payable, w .payee-count)
-
-same-length : tie.Need-same-length
-same-length c = search needs
-
-same-length-2 : tie.Need-same-length-2
-same-length-2 c = search needs
-
-same-length-3 : tie.Need-same-length-3
-same-length-3 c = search needs
 
 returns : tie.Need-returns
 returns c points w =
@@ -108,10 +96,10 @@ write-spec =
     array-share-prefix-overruns
     slice-aggregate-rows-2
     rows-requires
-    pv-total-requires
+    (λ c κs. search needs)
     state-users-requires
     state-payees-requires
-    same-length
-    same-length-2
-    same-length-3
+    (λ c. search needs)
+    (λ c. search needs)
+    (λ c. search needs)
     returns)

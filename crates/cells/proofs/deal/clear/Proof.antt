@@ -34,9 +34,6 @@ loop-again c = (omega arith, simp length-set (c .before .loop .inv .1))
 same-length : tie.Need-same-length Inv-loop μ-loop
 same-length c = c .before .loop .inv .1
 
-returns : tie.Need-returns Inv-loop μ-loop
-returns c = search needs
-
 pub clear-spec : {M : Type 1} → statement M
 clear-spec =
     tie.close
@@ -50,4 +47,4 @@ clear-spec =
     loop-less
     loop-again
     same-length
-    returns)
+    (λ c. search needs))

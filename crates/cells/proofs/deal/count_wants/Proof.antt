@@ -43,9 +43,6 @@ mul-wrapping-add-u64 c = omega arith
 slice-read-wrapping-add-u64 : tie.Need-slice-read-wrapping-add-u64 Inv-loop μ-loop
 slice-read-wrapping-add-u64 c = omega arith
 
-wrapping-add-u64-requires : tie.Need-wrapping-add-u64-requires Inv-loop μ-loop
-wrapping-add-u64-requires c κs = search needs
-
 mul-counts : tie.Need-mul-counts Inv-loop μ-loop
 mul-counts c = omega arith
 
@@ -73,9 +70,6 @@ loop-again-3 c = omega arith
 same-length : tie.Need-same-length Inv-loop μ-loop
 same-length c = omega arith
 
-returns : tie.Need-returns Inv-loop μ-loop
-returns c = search needs
-
 pub count-wants-spec : {M : Type 1} → statement M
 count-wants-spec =
     tie.close
@@ -92,7 +86,7 @@ count-wants-spec =
     shared-slice-read-if2
     mul-wrapping-add-u64
     slice-read-wrapping-add-u64
-    wrapping-add-u64-requires
+    (λ c κs. search needs)
     mul-counts
     slice-write-counts
     loop-less
@@ -102,4 +96,4 @@ count-wants-spec =
     loop-less-3
     loop-again-3
     same-length
-    returns)
+    (λ c. search needs))

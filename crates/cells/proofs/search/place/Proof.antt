@@ -23,12 +23,6 @@ mul-if1 c = omega arith
 slice-read-if1 : tie.Need-slice-read-if1 Inv-loop μ-loop
 slice-read-if1 c = omega (arith, c .before .before .loop .inv .kept .tall, c .before .before .before .before .before .before .before .before .pre .tall)
 
-reopen-requires : tie.Need-reopen-requires Inv-loop μ-loop
-reopen-requires c κs = search needs
-
-reopen-requires-2 : tie.Need-reopen-requires-2 Inv-loop μ-loop
-reopen-requires-2 c κs = search needs
-
 visit-row-requires : tie.Need-visit-row-requires Inv-loop μ-loop
 visit-row-requires c κs =
     let l = c .before .before .before .before .before .before .before .before .before .before .before .before .before .before in
@@ -104,8 +98,8 @@ place-spec =
     loop-holds
     mul-if1
     slice-read-if1
-    reopen-requires
-    reopen-requires-2
+    (λ c κs. search needs)
+    (λ c κs. search needs)
     visit-row-requires
     mul-lacks
     slice-read-lacks

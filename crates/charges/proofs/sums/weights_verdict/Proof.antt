@@ -17,9 +17,6 @@ returns c = rw (sym (eqb-word 0 tt (c .before .fits .pb)) ∙ eq-eqb _ 0 (c .if1
 some-pb : (c : tie.Else1) → eqZ (c .before .args .pb) (pos 0) ≡ false
 some-pb c = sym (eqb-word 0 tt (c .before .fits .pb)) ∙ ne-eqb _ 0 (c .if1 .left)
 
-no-weights-requires : tie.Need-no-weights-requires
-no-weights-requires c κs = search needs
-
 nine : (c : tie.After-no-weights) → let a = c .before .before .args in c .no-weights .result ≡ (ltZ (pos 0) (a .pv) && eqZ (a .uses) (pos 0))
 nine c = let f = c .before .before .fits in simp (toZ-ofZ, f .pv, f .uses) at (c .no-weights .ensures)
 
@@ -30,4 +27,4 @@ returns-3 : tie.Need-returns-3
 returns-3 c = rw (some-pb (c .before .before), sym (nine (c .before)) ∙ c .if2 .left)
 
 pub weights-verdict-spec : {M : Type 1} → statement M
-weights-verdict-spec = tie.close (tie.spec returns no-weights-requires returns-2 returns-3)
+weights-verdict-spec = tie.close (tie.spec returns (λ c κs. search needs) returns-2 returns-3)

@@ -37,9 +37,6 @@ month-told c =
     let f : SFits w64 (s .args .ledger .month) = search needs in
     simp (toZ-ofZ, f, s .fits .month) at (c .bad-month .ensures)
 
-bad-counts-requires : tie.Need-bad-counts-requires
-bad-counts-requires c κs = search needs
-
 returns : tie.Need-returns
 returns c =
     let s = c .before .before in
@@ -50,15 +47,6 @@ short-slices-requires : tie.Need-short-slices-requires
 short-slices-requires c κs =
     let s = c .before .before in
     few-counts (state s) (s .args .users) (s .args .agents) (s .args .points) (counts-passed c)
-
-enum-known-short : tie.Need-enum-known-short
-enum-known-short c = search needs
-
-enum-told : tie.Need-enum-told
-enum-told c = search needs
-
-bad-month-requires : tie.Need-bad-month-requires
-bad-month-requires c κs = search needs
 
 returns-2 : tie.Need-returns-2
 returns-2 c =
@@ -74,9 +62,6 @@ slice-aggregate-credits-verdict c =
     let told = c .before .before .before .before in
     let s = told .before .before .before .before .before in
     sym (length-take-le (s .args .ledger .users) (s .args .held .now) (long-held (state s) (lengths s) (slices-passed told)))
-
-credits-verdict-requires : tie.Need-credits-verdict-requires
-credits-verdict-requires c κs = search needs
 
 returns-3 : tie.Need-returns-3
 returns-3 c =
@@ -100,14 +85,14 @@ pub before-lines-spec : {M : Type 1} → statement M
 before-lines-spec =
     tie.close
     (tie.spec
-    bad-counts-requires
+    (λ c κs. search needs)
     returns
     short-slices-requires
-    enum-known-short
-    enum-told
-    bad-month-requires
+    (λ c. search needs)
+    (λ c. search needs)
+    (λ c κs. search needs)
     returns-2
     slice-aggregate-credits-verdict
-    credits-verdict-requires
+    (λ c κs. search needs)
     returns-3
     returns-4)

@@ -38,18 +38,6 @@ passed c ps f =
     passed-7 (a .ledger) (a .held .now) (a .cells) (a .work) (a .month) (a .ons) (a .agents .now) (a .users .now) (a .points) (a .s) ps f
     (sym (through-told (c .before .before) ps f) ∙ ap verdictOf (c .enum-told .given .1))
 
-through-lines-requires : tie.Need-through-lines-requires
-through-lines-requires c κs = search needs
-
-enum-known-first : tie.Need-enum-known-first
-enum-known-first c = search needs
-
-refused-requires : tie.Need-refused-requires
-refused-requires c κs = search needs
-
-enum-told : tie.Need-enum-told
-enum-told c = search needs
-
 slice-aggregate-weighed : tie.Need-slice-aggregate-weighed
 slice-aggregate-weighed c =
     let d = c .before in
@@ -81,10 +69,10 @@ pub judge-spec : {M : Type 1} → statement M
 judge-spec =
     tie.close
     (tie.spec
-    through-lines-requires
-    enum-known-first
-    refused-requires
-    enum-told
+    (λ c κs. search needs)
+    (λ c. search needs)
+    (λ c κs. search needs)
+    (λ c. search needs)
     slice-aggregate-weighed
     weighed-requires
     returns

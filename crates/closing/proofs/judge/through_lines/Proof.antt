@@ -29,24 +29,6 @@ lines-told :
     verdictOf (c .lines-before-points .result) ≡ firstLines (a .ons) (a .agents .now) (a .users .now)
 lines-told c = simp (toZ-ofZ, c .before .before .before .before .fits .ons) at (c .lines-before-points .ensures)
 
-before-lines-requires : tie.Need-before-lines-requires
-before-lines-requires c κs = search needs
-
-enum-known-first : tie.Need-enum-known-first
-enum-known-first c = search needs
-
-enum-told : tie.Need-enum-told
-enum-told c = search needs
-
-lines-before-points-requires : tie.Need-lines-before-points-requires
-lines-before-points-requires c κs = search needs
-
-enum-known-second : tie.Need-enum-known-second
-enum-known-second c = search needs
-
-enum-told-2 : tie.Need-enum-told-2
-enum-told-2 c = search needs
-
 returns : tie.Need-returns
 returns c ps t =
     let d = c .before .before .before in
@@ -86,12 +68,12 @@ pub through-lines-spec : {M : Type 1} → statement M
 through-lines-spec =
     tie.close
     (tie.spec
-    before-lines-requires
-    enum-known-first
-    enum-told
-    lines-before-points-requires
-    enum-known-second
-    enum-told-2
+    (λ c κs. search needs)
+    (λ c. search needs)
+    (λ c. search needs)
+    (λ c κs. search needs)
+    (λ c. search needs)
+    (λ c. search needs)
     returns
     returns-2
     returns-3)

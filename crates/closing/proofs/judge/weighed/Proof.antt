@@ -97,34 +97,10 @@ slice-aggregate-total c = sym (length-take-le _ _ (uses-reach (c .before .before
 total-requires : tie.Need-total-requires
 total-requires c κs = total-asked (c .before .before .before .before .pre .3)
 
-weights-verdict-requires : tie.Need-weights-verdict-requires
-weights-verdict-requires c κs = search needs
-
-enum-known-verdict : tie.Need-enum-known-verdict
-enum-known-verdict c = search needs
-
-refused-requires : tie.Need-refused-requires
-refused-requires c κs = search needs
-
-enum-told : tie.Need-enum-told
-enum-told c = search needs
-
 bill-requires : tie.Need-bill-requires
 bill-requires c κs =
     let p = c .before .before .before .before .before .before .before .before .pre in
     (_, month-asked c (p .3))
-
-debits-verdict-requires : tie.Need-debits-verdict-requires
-debits-verdict-requires c κs = search needs
-
-enum-known-last : tie.Need-enum-known-last
-enum-known-last c = search needs
-
-refused-requires-2 : tie.Need-refused-requires-2
-refused-requires-2 c κs = search needs
-
-enum-told-2 : tie.Need-enum-told-2
-enum-told-2 c = search needs
 
 returns : tie.Need-returns
 returns c month ons points t =
@@ -148,15 +124,15 @@ weighed-spec =
     array-share-prefix-uses
     slice-aggregate-total
     total-requires
-    weights-verdict-requires
-    enum-known-verdict
-    refused-requires
-    enum-told
+    (λ c κs. search needs)
+    (λ c. search needs)
+    (λ c κs. search needs)
+    (λ c. search needs)
     bill-requires
-    debits-verdict-requires
-    enum-known-last
-    refused-requires-2
-    enum-told-2
+    (λ c κs. search needs)
+    (λ c. search needs)
+    (λ c κs. search needs)
+    (λ c. search needs)
     returns
     returns-2
     returns-3)

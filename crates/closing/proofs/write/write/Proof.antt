@@ -36,9 +36,6 @@ credits-written c w =
     let s = start c in
     (rw (toZ-ofZ (s .fits .month), toZ-ofZ (s .fits .ons), toZ-ofZ (total-fits s)) at (c .vcs .ensures)) ∙ credits-are w
 
-add-m : tie.Need-add-m
-add-m c = search needs
-
 array-borrow-prefix-vc : tie.Need-array-borrow-prefix-vc
 array-borrow-prefix-vc c = payees-fit (c .before .before .before .before)
 
@@ -78,15 +75,6 @@ slice-aggregate-copy c = let s = start (c .before .before .before .before .befor
 copy-requires : tie.Need-copy-requires
 copy-requires c κs = let s = start (c .before .before .before .before .before .before .before .before .before .before .before) in simp length-take (omega (arith, arrays s, s .pre .1 .few-users))
 
-same-length : tie.Need-same-length
-same-length c = search needs
-
-same-length-2 : tie.Need-same-length-2
-same-length-2 c = search needs
-
-same-length-3 : tie.Need-same-length-3
-same-length-3 c = search needs
-
 returns : tie.Need-returns
 returns c l w =
     let f = c .before .before .before .before .before .before .before in
@@ -97,7 +85,7 @@ pub write-spec : {M : Type 1} → statement M
 write-spec =
     tie.close
     (tie.spec
-    add-m
+    (λ c. search needs)
     array-borrow-prefix-vc
     slice-aggregate-vcs
     vcs-requires
@@ -109,7 +97,7 @@ write-spec =
     array-share-prefix-credits
     slice-aggregate-copy
     copy-requires
-    same-length
-    same-length-2
-    same-length-3
+    (λ c. search needs)
+    (λ c. search needs)
+    (λ c. search needs)
     returns)

@@ -12,57 +12,21 @@ Inv-loop month rows n i₀ i = (n ≡ length rows) × (i ≤ n)
 abbrev μ-loop : tie.MeasureT-loop
 μ-loop month rows n i₀ i = n - i
 
-loop-holds : tie.Need-loop-holds Inv-loop μ-loop
-loop-holds c = search needs
-
-mul-r : tie.Need-mul-r Inv-loop μ-loop
-mul-r c = search needs
-
-shared-slice-copy-out-r : tie.Need-shared-slice-copy-out-r Inv-loop μ-loop
-shared-slice-copy-out-r c = search needs
-
-add-j : tie.Need-add-j Inv-loop μ-loop
-add-j c = search needs
-
-charged-requires : tie.Need-charged-requires Inv-loop μ-loop
-charged-requires c κs = search needs
-
-returns : tie.Need-returns Inv-loop μ-loop
-returns c = search needs
-
-owed-requires : tie.Need-owed-requires Inv-loop μ-loop
-owed-requires c κs = search needs
-
-returns-2 : tie.Need-returns-2 Inv-loop μ-loop
-returns-2 c = search needs
-
-add-i : tie.Need-add-i Inv-loop μ-loop
-add-i c = search needs
-
-loop-less : tie.Need-loop-less Inv-loop μ-loop
-loop-less c = search needs
-
-loop-again : tie.Need-loop-again Inv-loop μ-loop
-loop-again c = search needs
-
-returns-3 : tie.Need-returns-3 Inv-loop μ-loop
-returns-3 c = search needs
-
 pub users-spec : {M : Type 1} → statement M
 users-spec =
     tie.close
     (tie.spec
     Inv-loop
     μ-loop
-    loop-holds
-    mul-r
-    shared-slice-copy-out-r
-    add-j
-    charged-requires
-    returns
-    owed-requires
-    returns-2
-    add-i
-    loop-less
-    loop-again
-    returns-3)
+    (λ c. search needs)
+    (λ c. search needs)
+    (λ c. search needs)
+    (λ c. search needs)
+    (λ c κs. search needs)
+    (λ c. search needs)
+    (λ c κs. search needs)
+    (λ c. search needs)
+    (λ c. search needs)
+    (λ c. search needs)
+    (λ c. search needs)
+    (λ c. search needs))

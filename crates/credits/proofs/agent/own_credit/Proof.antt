@@ -22,15 +22,6 @@ within s = cycle-within (s .args .month) (possible (s .args .month) (s .pre .0))
 bounds : (s : tie.Start) → AgentBounds (cycleMonth (s .args .month)) (agentOf (s .args .t2))
 bounds s = agent-bounds (cycleMonth (s .args .month)) (within s) (s .pre .1)
 
-vmst-requires : tie.Need-vmst-requires
-vmst-requires c κs = search needs
-
-cycle-month-requires : tie.Need-cycle-month-requires
-cycle-month-requires c κs = search needs
-
-array-copy-out-vmpa : tie.Need-array-copy-out-vmpa
-array-copy-out-vmpa c = search needs
-
 month-is : (c : tie.After-cycle-month) → c .cycle-month .result ≡ cycleMonth (c .before .before .args .month)
 month-is c = simp (toZ-ofZ, c .before .before .fits .month) at (c .cycle-month .ensures)
 
@@ -54,9 +45,6 @@ add-result c =
     let b = bounds (d .before) in
     simp (vmpa-is c, d .vmst .ensures, toZ-ofZ, b .VMPA .fits, b .VMST .fits) (b .VMST-VMPA .fits)
 
-array-copy-out-result : tie.Need-array-copy-out-result
-array-copy-out-result c = search needs
-
 add-result-2 : tie.Need-add-result-2
 add-result-2 c =
     let d = c .before .before .before .before in
@@ -76,11 +64,11 @@ pub own-credit-spec : {M : Type 1} → statement M
 own-credit-spec =
     tie.close
     (tie.spec
-    vmst-requires
-    cycle-month-requires
-    array-copy-out-vmpa
+    (λ c κs. search needs)
+    (λ c κs. search needs)
+    (λ c. search needs)
     vmpa-requires
     add-result
-    array-copy-out-result
+    (λ c. search needs)
     add-result-2
     returns)

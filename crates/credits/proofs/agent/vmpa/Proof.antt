@@ -15,9 +15,6 @@ bounds s = due-bounds (s .args .c) (s .pre .0) (s .pre .1)
 mul-floor-12 : tie.Need-mul-floor-12
 mul-floor-12 c = simp (toZ-ofZ, c .fits .c, c .fits .pa) (bounds c .due .fits)
 
-floor-12-requires : tie.Need-floor-12-requires
-floor-12-requires c κs = search needs
-
 due-is : (c : tie.After-floor-12) → let a = c .before .args in c .floor-12 .result ≡ floor (a .pa *ℤ a .c) (pos 12)
 due-is c = let s = c .before in simp (toZ-ofZ, s .fits .c, s .fits .pa, bounds s .due .fits) at (c .floor-12 .ensures)
 
@@ -28,9 +25,6 @@ mul-floor-12-2 : tie.Need-mul-floor-12-2
 mul-floor-12-2 c =
     let s = c .before in
     simp (toZ-ofZ, s .fits .c, s .fits .pa, bounds s .month-before .fits) (bounds s .due-before .fits)
-
-floor-12-requires-2 : tie.Need-floor-12-requires-2
-floor-12-requires-2 c κs = search needs
 
 before-is : (c : tie.After-floor-122) → let a = c .before .before .args in c .floor-122 .result ≡ floor (a .pa *ℤ (a .c -ℤ pos 1)) (pos 12)
 before-is c =
@@ -54,9 +48,9 @@ vmpa-spec =
     tie.close
     (tie.spec
     mul-floor-12
-    floor-12-requires
+    (λ c κs. search needs)
     sub-floor-12
     mul-floor-12-2
-    floor-12-requires-2
+    (λ c κs. search needs)
     sub-result
     returns)

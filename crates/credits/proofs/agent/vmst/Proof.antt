@@ -35,23 +35,11 @@ module _ {x y : ℤ} (a : Amount x) (b : Amount y) where
       net : back (back (back (back x -ℤ back y) +ℤ back z) -ℤ back w) ≡ x -ℤ y +ℤ z -ℤ w
       net = rw (toZ-ofZ four, toZ-ofZ three, toZ-ofZ two, toZ-ofZ (one a), toZ-ofZ (one b), toZ-ofZ (one c), toZ-ofZ (one d))
 
-array-copy-out-result : tie.Need-array-copy-out-result
-array-copy-out-result c = search needs
-
-array-copy-out-result-2 : tie.Need-array-copy-out-result-2
-array-copy-out-result-2 c = search needs
-
 sub-result : tie.Need-sub-result
 sub-result c = search two
 
-array-copy-out-result-3 : tie.Need-array-copy-out-result-3
-array-copy-out-result-3 c = search needs
-
 add-result : tie.Need-add-result
 add-result c = search three
-
-array-copy-out-result-4 : tie.Need-array-copy-out-result-4
-array-copy-out-result-4 c = search needs
 
 sub-result-2 : tie.Need-sub-result-2
 sub-result-2 c = search four
@@ -64,11 +52,11 @@ pub vmst-spec : {M : Type 1} → statement M
 vmst-spec =
     tie.close
     (tie.spec
-    array-copy-out-result
-    array-copy-out-result-2
+    (λ c. search needs)
+    (λ c. search needs)
     sub-result
-    array-copy-out-result-3
+    (λ c. search needs)
     add-result
-    array-copy-out-result-4
+    (λ c. search needs)
     sub-result-2
     returns)

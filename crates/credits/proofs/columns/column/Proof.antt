@@ -27,31 +27,10 @@ same s = rw length-map (sym (s .pre .1))
 loop-holds : tie.Need-loop-holds Inv-loop μ-loop
 loop-holds c = filling-none _ _
 
-mul-line : tie.Need-mul-line Inv-loop μ-loop
-mul-line c = search needs
-
-shared-slice-copy-out-line : tie.Need-shared-slice-copy-out-line Inv-loop μ-loop
-shared-slice-copy-out-line c = search needs
-
-mul-out : tie.Need-mul-out Inv-loop μ-loop
-mul-out c = search needs
-
-array-copy-out-out : tie.Need-array-copy-out-out Inv-loop μ-loop
-array-copy-out-out c = search needs
-
-mul-t14 : tie.Need-mul-t14 Inv-loop μ-loop
-mul-t14 c = search needs
-
 slice-set-from-out : tie.Need-slice-set-from-out Inv-loop μ-loop
 slice-set-from-out c =
     let s = c .before .before .before .before in
     omega (arith, filling-long (same s) (c .before .before .before .loop .inv), s .pre .1)
-
-add-i : tie.Need-add-i Inv-loop μ-loop
-add-i c = search needs
-
-loop-less : tie.Need-loop-less Inv-loop μ-loop
-loop-less c = search needs
 
 loop-again : tie.Need-loop-again Inv-loop μ-loop
 loop-again c =
@@ -74,14 +53,14 @@ column-spec =
     Inv-loop
     μ-loop
     loop-holds
-    mul-line
-    shared-slice-copy-out-line
-    mul-out
-    array-copy-out-out
-    mul-t14
+    (λ c. search needs)
+    (λ c. search needs)
+    (λ c. search needs)
+    (λ c. search needs)
+    (λ c. search needs)
     slice-set-from-out
-    add-i
-    loop-less
+    (λ c. search needs)
+    (λ c. search needs)
     loop-again
     same-length
     returns)

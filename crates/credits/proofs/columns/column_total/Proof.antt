@@ -23,18 +23,6 @@ abbrev μ-loop : tie.MeasureT-loop
 loop-holds : tie.Need-loop-holds Inv-loop μ-loop
 loop-holds c = added-none _
 
-mul-line : tie.Need-mul-line Inv-loop μ-loop
-mul-line c = search needs
-
-shared-slice-copy-out-line : tie.Need-shared-slice-copy-out-line Inv-loop μ-loop
-shared-slice-copy-out-line c = search needs
-
-mul-sum : tie.Need-mul-sum Inv-loop μ-loop
-mul-sum c = search needs
-
-array-copy-out-sum : tie.Need-array-copy-out-sum Inv-loop μ-loop
-array-copy-out-sum c = search needs
-
 module _ (c : tie.After-sum Inv-loop μ-loop) where
   abbrev s : tie.Start Inv-loop μ-loop
   s = c .before .before .before .before
@@ -60,12 +48,6 @@ module _ (c : tie.After-sum Inv-loop μ-loop) where
 add-sum : tie.Need-add-sum Inv-loop μ-loop
 add-sum c = rw (toZ-ofZ (entry-fits c)) (sum-fits c)
 
-add-i : tie.Need-add-i Inv-loop μ-loop
-add-i c = search needs
-
-loop-less : tie.Need-loop-less Inv-loop μ-loop
-loop-less c = search needs
-
 loop-again : tie.Need-loop-again Inv-loop μ-loop
 loop-again c = rw (toZ-ofZ (entry-fits c), toZ-ofZ (sum-fits c)) (added-more (c .before .before .before .loop .inv) (inside c) (entry-is c))
 
@@ -79,12 +61,12 @@ column-total-spec =
     Inv-loop
     μ-loop
     loop-holds
-    mul-line
-    shared-slice-copy-out-line
-    mul-sum
-    array-copy-out-sum
+    (λ c. search needs)
+    (λ c. search needs)
+    (λ c. search needs)
+    (λ c. search needs)
     add-sum
-    add-i
-    loop-less
+    (λ c. search needs)
+    (λ c. search needs)
     loop-again
     returns)

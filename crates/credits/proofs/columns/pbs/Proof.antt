@@ -5,14 +5,8 @@ use Rattle.credits.specs.Columns.{pb-column}
 use Rattle.credits.proofs.columns.pbs.Statement.{statement}
 use Rattle.credits.proofs.columns.pbs.Tie as tie
 
-column-requires : tie.Need-column-requires
-column-requires c κs = search needs
-
-same-length : tie.Need-same-length
-same-length c = search needs
-
 returns : tie.Need-returns
 returns c = c .before .column .ensures ∙ pb-column (c .before .before .before .args .agents .now)
 
 pub pbs-spec : {M : Type 1} → statement M
-pbs-spec = tie.close (tie.spec column-requires same-length returns)
+pbs-spec = tie.close (tie.spec (λ c κs. search needs) (λ c. search needs) returns)

@@ -31,17 +31,8 @@ long c =
 loop-holds : tie.Need-loop-holds Inv-loop μ-loop
 loop-holds c = filling-none _ _
 
-mul-out : tie.Need-mul-out Inv-loop μ-loop
-mul-out c = search needs
-
 slice-copy-out-out : tie.Need-slice-copy-out-out Inv-loop μ-loop
 slice-copy-out-out c = long c
-
-mul-out-2 : tie.Need-mul-out-2 Inv-loop μ-loop
-mul-out-2 c = search needs
-
-shared-slice-copy-out-out : tie.Need-shared-slice-copy-out-out Inv-loop μ-loop
-shared-slice-copy-out-out c = search needs
 
 module _ (c : tie.After-out2 Inv-loop μ-loop) where
   abbrev s : tie.Start Inv-loop μ-loop
@@ -71,17 +62,8 @@ module _ (c : tie.After-out2 Inv-loop μ-loop) where
 add-out : tie.Need-add-out Inv-loop μ-loop
 add-out c = rw (was c, toZ-ofZ (entry-fits c), toZ-ofZ (part-fits c)) (sum-fits c)
 
-mul-t13 : tie.Need-mul-t13 Inv-loop μ-loop
-mul-t13 c = search needs
-
 slice-set-from-out : tie.Need-slice-set-from-out Inv-loop μ-loop
 slice-set-from-out c = long (c .before .before)
-
-add-i : tie.Need-add-i Inv-loop μ-loop
-add-i c = search needs
-
-loop-less : tie.Need-loop-less Inv-loop μ-loop
-loop-less c = search needs
 
 loop-again : tie.Need-loop-again Inv-loop μ-loop
 loop-again c =
@@ -103,15 +85,15 @@ add-each-spec =
     Inv-loop
     μ-loop
     loop-holds
-    mul-out
+    (λ c. search needs)
     slice-copy-out-out
-    mul-out-2
-    shared-slice-copy-out-out
+    (λ c. search needs)
+    (λ c. search needs)
     add-out
-    mul-t13
+    (λ c. search needs)
     slice-set-from-out
-    add-i
-    loop-less
+    (λ c. search needs)
+    (λ c. search needs)
     loop-again
     same-length
     returns)

@@ -34,9 +34,6 @@ module _ (s : tie.Start) where
   abbrev p : Payable (s .args .month) (s .args .ons) (s .args .debits) lines
   p = s .pre .0
 
-own-credits-requires : tie.Need-own-credits-requires
-own-credits-requires c κs = search needs
-
 own-is : (c : tie.After-own-credits) → c .own-credits .last .1 .1 .0 ≡ own (c .before .before)
 own-is c = rw (toZ-ofZ (c .before .before .fits .month)) at (c .own-credits .ensures)
 
@@ -65,12 +62,6 @@ balance-is c =
 
 balance-fits : (c : tie.After-smse) → SFits w64 (c .smse .result)
 balance-fits c = search needs
-
-pbs-requires : tie.Need-pbs-requires
-pbs-requires c κs = search needs
-
-pb-total-requires : tie.Need-pb-total-requires
-pb-total-requires c κs = search needs
 
 weight-fits : (c : tie.After-pb-total) → SFits w64 (c .pb-total .result)
 weight-fits c = search needs
@@ -106,15 +97,6 @@ add-each-requires c κs =
     let q = p (s f) in
     rw (parts-are f, own-is (o f)) (parts-within q, own-small (q .lines) _ (q .possible), long f)
 
-same-length : tie.Need-same-length
-same-length c = search needs
-
-same-length-2 : tie.Need-same-length-2
-same-length-2 c = search needs
-
-same-length-3 : tie.Need-same-length-3
-same-length-3 c = search needs
-
 returns : tie.Need-returns
 unfolding agentVCs
 returns c =
@@ -132,14 +114,14 @@ pub agent-credits-spec : {M : Type 1} → statement M
 agent-credits-spec =
     tie.close
     (tie.spec
-    own-credits-requires
+    (λ c κs. search needs)
     total-requires
     smse-requires
-    pbs-requires
-    pb-total-requires
+    (λ c κs. search needs)
+    (λ c κs. search needs)
     fill-requires
     add-each-requires
-    same-length
-    same-length-2
-    same-length-3
+    (λ c. search needs)
+    (λ c. search needs)
+    (λ c. search needs)
     returns)

@@ -40,30 +40,15 @@ same s month = long month (s .args .agents .now) ∙ sym (s .pre .2)
 loop-holds : tie.Need-loop-holds Inv-loop μ-loop
 loop-holds c = filling-none _ _
 
-mul-own-credit : tie.Need-mul-own-credit Inv-loop μ-loop
-mul-own-credit c = search needs
-
-shared-slice-copy-out-own-credit : tie.Need-shared-slice-copy-out-own-credit Inv-loop μ-loop
-shared-slice-copy-out-own-credit c = search needs
-
 own-credit-requires : tie.Need-own-credit-requires Inv-loop μ-loop
 own-credit-requires c κs =
     let s = c .before .before .before in
     rw (toZ-ofZ (s .fits .month)) (s .pre .0, line-at (s .args .agents .now) (s .pre .1) (c .before .before .loop .i) (c .before .loop-test .taken))
 
-mul-t11 : tie.Need-mul-t11 Inv-loop μ-loop
-mul-t11 c = search needs
-
 slice-set-from-out : tie.Need-slice-set-from-out Inv-loop μ-loop
 slice-set-from-out c =
     let s = c .before .before .before .before in
     omega (arith, filling-long (same s _) (c .before .before .before .loop .inv), s .pre .2)
-
-add-i : tie.Need-add-i Inv-loop μ-loop
-add-i c = search needs
-
-loop-less : tie.Need-loop-less Inv-loop μ-loop
-loop-less c = search needs
 
 loop-again : tie.Need-loop-again Inv-loop μ-loop
 loop-again c =
@@ -88,13 +73,13 @@ own-credits-spec =
     Inv-loop
     μ-loop
     loop-holds
-    mul-own-credit
-    shared-slice-copy-out-own-credit
+    (λ c. search needs)
+    (λ c. search needs)
     own-credit-requires
-    mul-t11
+    (λ c. search needs)
     slice-set-from-out
-    add-i
-    loop-less
+    (λ c. search needs)
+    (λ c. search needs)
     loop-again
     same-length
     returns)

@@ -28,9 +28,6 @@ array-borrow-prefix-vmant c = few (c .before)
 slice-aggregate-agent-credits-2 : tie.Need-slice-aggregate-agent-credits-2
 slice-aggregate-agent-credits-2 c = sym (length-take-le _ _ (few (c .before .before)))
 
-slice-relend-prefix-agent-credits : tie.Need-slice-relend-prefix-agent-credits
-slice-relend-prefix-agent-credits c = search needs
-
 slice-aggregate-agent-credits-3 : tie.Need-slice-aggregate-agent-credits-3
 slice-aggregate-agent-credits-3 c = sym (length-take-le _ _ (omega arith))
 
@@ -42,15 +39,6 @@ agent-credits-requires c κs =
       length-take-le _ _ (few s),
       length-take-le _ _ (omega arith),
     )
-
-mul-ons : tie.Need-mul-ons
-mul-ons c = search needs
-
-slice-set-from-ons : tie.Need-slice-set-from-ons
-slice-set-from-ons c = search needs
-
-same-length : tie.Need-same-length
-same-length c = search needs
 
 returns : tie.Need-returns
 unfolding VCsFrom
@@ -70,10 +58,10 @@ vcs-spec =
     slice-aggregate-agent-credits
     array-borrow-prefix-vmant
     slice-aggregate-agent-credits-2
-    slice-relend-prefix-agent-credits
+    (λ c. search needs)
     slice-aggregate-agent-credits-3
     agent-credits-requires
-    mul-ons
-    slice-set-from-ons
-    same-length
+    (λ c. search needs)
+    (λ c. search needs)
+    (λ c. search needs)
     returns)

@@ -9,12 +9,6 @@ use Rattle.rules.specs.Refusals.{badCounts}
 use Rattle.limits.proofs.counts.bad_counts.Statement.{statement}
 use Rattle.limits.proofs.counts.bad_counts.Tie as tie
 
-bad-opening-counts-requires : tie.Need-bad-opening-counts-requires
-bad-opening-counts-requires c κs = search needs
-
-impossible-month-requires : tie.Need-impossible-month-requires
-impossible-month-requires c κs = search needs
-
 returns : tie.Need-returns
 unfolding badCounts
 returns c =
@@ -24,4 +18,4 @@ returns c =
     simp (c .before .before .before .before .before .before .bad-opening-counts .ensures, c .impossible-month .ensures, toZ-ofZ, f, eqb-word 0 tt f)
 
 pub bad-counts-spec : {M : Type 1} → statement M
-bad-counts-spec = tie.close (tie.spec bad-opening-counts-requires impossible-month-requires returns)
+bad-counts-spec = tie.close (tie.spec (λ c κs. search needs) (λ c κs. search needs) returns)

@@ -12,9 +12,6 @@ use Rattle.limits.proofs.counts.short_slices.Tie as tie
 small : (users agents : ℕ) → users ≤ 512 → agents ≤ 256 → (agents + 1) * users ≤ 257 * 512
 small users agents h k = let j : agents + 1 ≤ 257 = omega arith in mul-le-mul j h
 
-add-needed : tie.Need-add-needed
-add-needed c = search needs
-
 mul-needed : tie.Need-mul-needed
 mul-needed c = omega (arith, small (c .args .users) (c .args .agents) (c .pre .0) (c .pre .1))
 
@@ -28,15 +25,6 @@ returns-2 c = λ month credits. rw (le-ltb _ _ (c .before .if1 .left), lt-ltb _ 
 
 mul-if3 : tie.Need-mul-if3
 mul-if3 c = let s = c .before .before in omega (arith, small (s .args .users) (s .args .agents) (s .pre .0) (s .pre .1))
-
-add-if3 : tie.Need-add-if3
-add-if3 c = search needs
-
-add-if3-2 : tie.Need-add-if3-2
-add-if3-2 c = search needs
-
-mul-if3-2 : tie.Need-mul-if3-2
-mul-if3-2 c = search needs
 
 add-if3-3 : tie.Need-add-if3-3
 add-if3-3 c = let s = c .before .before in omega (arith, small (s .args .users) (s .args .agents) (s .pre .0) (s .pre .1))
@@ -53,14 +41,14 @@ pub short-slices-spec : {M : Type 1} → statement M
 short-slices-spec =
     tie.close
     (tie.spec
-    add-needed
+    (λ c. search needs)
     mul-needed
     returns
     returns-2
     mul-if3
-    add-if3
-    add-if3-2
-    mul-if3-2
+    (λ c. search needs)
+    (λ c. search needs)
+    (λ c. search needs)
     add-if3-3
     returns-3
     returns-4)

@@ -27,33 +27,12 @@ abbrev μ-loop : tie.MeasureT-loop
 loop-holds : tie.Need-loop-holds Inv-loop μ-loop
 loop-holds c = (omega arith, none-past test _)
 
-add-bad-agent : tie.Need-add-bad-agent Inv-loop μ-loop
-add-bad-agent c = search needs
-
-mul-bad-agent : tie.Need-mul-bad-agent Inv-loop μ-loop
-mul-bad-agent c = search needs
-
-shared-slice-copy-out-bad-agent : tie.Need-shared-slice-copy-out-bad-agent Inv-loop μ-loop
-shared-slice-copy-out-bad-agent c = search needs
-
-bad-agent-requires : tie.Need-bad-agent-requires Inv-loop μ-loop
-bad-agent-requires c κs = search needs
-
-add-t11 : tie.Need-add-t11 Inv-loop μ-loop
-add-t11 c = search needs
-
 returns : tie.Need-returns Inv-loop μ-loop
 returns c =
     let b = c .before .before .before .before in
     sym
     (each-map agentTest agentOf 1 _
     ∙ line-refused test _ _ (omega arith) (b .loop .inv .1) (ap (λ (t : Bool). when t 5 (b .loop .i + 1)) (sym (c .before .bad-agent .ensures) ∙ c .if1 .taken)))
-
-add-i : tie.Need-add-i Inv-loop μ-loop
-add-i c = search needs
-
-loop-less : tie.Need-loop-less Inv-loop μ-loop
-loop-less c = search needs
 
 loop-again : tie.Need-loop-again Inv-loop μ-loop
 loop-again c =
@@ -70,13 +49,13 @@ agents-verdict-spec =
     Inv-loop
     μ-loop
     loop-holds
-    add-bad-agent
-    mul-bad-agent
-    shared-slice-copy-out-bad-agent
-    bad-agent-requires
-    add-t11
+    (λ c. search needs)
+    (λ c. search needs)
+    (λ c. search needs)
+    (λ c κs. search needs)
+    (λ c. search needs)
     returns
-    add-i
-    loop-less
+    (λ c. search needs)
+    (λ c. search needs)
     loop-again
     returns-2)

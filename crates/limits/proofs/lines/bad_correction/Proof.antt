@@ -4,14 +4,8 @@ use mir.Facts.{toZ-ofZ}
 use Rattle.limits.proofs.lines.bad_correction.Statement.{statement}
 use Rattle.limits.proofs.lines.bad_correction.Tie as tie
 
-sub-outside : tie.Need-sub-outside
-sub-outside c = search needs
-
-outside-requires : tie.Need-outside-requires
-outside-requires c κs = search needs
-
 returns : tie.Need-returns
 returns c = simp (toZ-ofZ, c .before .fits .x) at (c .outside .ensures)
 
 pub bad-correction-spec : {M : Type 1} → statement M
-bad-correction-spec = tie.close (tie.spec sub-outside outside-requires returns)
+bad-correction-spec = tie.close (tie.spec (λ c. search needs) (λ c κs. search needs) returns)

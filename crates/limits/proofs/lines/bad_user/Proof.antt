@@ -10,24 +10,6 @@ use Rattle.rules.specs.Lines.{badUser}
 use Rattle.limits.proofs.lines.bad_user.Statement.{statement}
 use Rattle.limits.proofs.lines.bad_user.Tie as tie
 
-array-copy-out-is-number : tie.Need-array-copy-out-is-number
-array-copy-out-is-number c = search needs
-
-is-number-requires : tie.Need-is-number-requires
-is-number-requires c κs = search needs
-
-array-copy-out-outside : tie.Need-array-copy-out-outside
-array-copy-out-outside c = search needs
-
-outside-requires : tie.Need-outside-requires
-outside-requires c κs = search needs
-
-array-copy-out-bad-correction : tie.Need-array-copy-out-bad-correction
-array-copy-out-bad-correction c = search needs
-
-bad-correction-requires : tie.Need-bad-correction-requires
-bad-correction-requires c κs = search needs
-
 returns : tie.Need-returns
 unfolding badUser
 returns c =
@@ -41,10 +23,10 @@ pub bad-user-spec : {M : Type 1} → statement M
 bad-user-spec =
     tie.close
     (tie.spec
-    array-copy-out-is-number
-    is-number-requires
-    array-copy-out-outside
-    outside-requires
-    array-copy-out-bad-correction
-    bad-correction-requires
+    (λ c. search needs)
+    (λ c κs. search needs)
+    (λ c. search needs)
+    (λ c κs. search needs)
+    (λ c. search needs)
+    (λ c κs. search needs)
     returns)

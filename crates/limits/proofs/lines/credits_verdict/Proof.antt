@@ -32,28 +32,10 @@ tested c =
 loop-holds : tie.Need-loop-holds Inv-loop μ-loop
 loop-holds c = (omega arith, none-past creditTest _)
 
-mul-outside : tie.Need-mul-outside Inv-loop μ-loop
-mul-outside c = search needs
-
-shared-slice-copy-out-outside : tie.Need-shared-slice-copy-out-outside Inv-loop μ-loop
-shared-slice-copy-out-outside c = search needs
-
-outside-requires : tie.Need-outside-requires Inv-loop μ-loop
-outside-requires c κs = search needs
-
-add-t9 : tie.Need-add-t9 Inv-loop μ-loop
-add-t9 c = search needs
-
 returns : tie.Need-returns Inv-loop μ-loop
 returns c =
     let b = c .before .before .before .before in
     sym (line-refused creditTest _ (pos 0) (omega arith) (b .loop .inv .1) (ap (λ (t : Bool). when t 4 (b .loop .i + 1)) (sym (tested (c .before)) ∙ c .if1 .taken)))
-
-add-i : tie.Need-add-i Inv-loop μ-loop
-add-i c = search needs
-
-loop-less : tie.Need-loop-less Inv-loop μ-loop
-loop-less c = search needs
 
 loop-again : tie.Need-loop-again Inv-loop μ-loop
 loop-again c =
@@ -70,12 +52,12 @@ credits-verdict-spec =
     Inv-loop
     μ-loop
     loop-holds
-    mul-outside
-    shared-slice-copy-out-outside
-    outside-requires
-    add-t9
+    (λ c. search needs)
+    (λ c. search needs)
+    (λ c κs. search needs)
+    (λ c. search needs)
     returns
-    add-i
-    loop-less
+    (λ c. search needs)
+    (λ c. search needs)
     loop-again
     returns-2)

@@ -11,23 +11,8 @@ use Rattle.limits.proofs.lines.lines_before_points.Tie as tie
 ons-fine : (c : tie.Else1) → badAmount (c .before .before .args .ons) ≡ false
 ons-fine c = simp (toZ-ofZ, c .before .before .fits .ons) at (sym (c .before .bad-amount .ensures) ∙ c .if1 .left)
 
-bad-amount-requires : tie.Need-bad-amount-requires
-bad-amount-requires c κs = search needs
-
 returns : tie.Need-returns
 returns c = rw (simp (toZ-ofZ, c .before .before .fits .ons) at (sym (c .before .bad-amount .ensures) ∙ c .if1 .taken))
-
-agents-verdict-requires : tie.Need-agents-verdict-requires
-agents-verdict-requires c κs = search needs
-
-enum-known-first : tie.Need-enum-known-first
-enum-known-first c = search needs
-
-enum-told : tie.Need-enum-told
-enum-told c = search needs
-
-users-verdict-requires : tie.Need-users-verdict-requires
-users-verdict-requires c κs = search needs
 
 returns-2 : tie.Need-returns-2
 returns-2 c =
@@ -43,11 +28,11 @@ pub lines-before-points-spec : {M : Type 1} → statement M
 lines-before-points-spec =
     tie.close
     (tie.spec
-    bad-amount-requires
+    (λ c κs. search needs)
     returns
-    agents-verdict-requires
-    enum-known-first
-    enum-told
-    users-verdict-requires
+    (λ c κs. search needs)
+    (λ c. search needs)
+    (λ c. search needs)
+    (λ c κs. search needs)
     returns-2
     returns-3)

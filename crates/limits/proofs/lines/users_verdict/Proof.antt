@@ -27,33 +27,12 @@ abbrev μ-loop : tie.MeasureT-loop
 loop-holds : tie.Need-loop-holds Inv-loop μ-loop
 loop-holds c = (omega arith, none-past test _)
 
-add-bad-user : tie.Need-add-bad-user Inv-loop μ-loop
-add-bad-user c = search needs
-
-mul-bad-user : tie.Need-mul-bad-user Inv-loop μ-loop
-mul-bad-user c = search needs
-
-shared-slice-copy-out-bad-user : tie.Need-shared-slice-copy-out-bad-user Inv-loop μ-loop
-shared-slice-copy-out-bad-user c = search needs
-
-bad-user-requires : tie.Need-bad-user-requires Inv-loop μ-loop
-bad-user-requires c κs = search needs
-
-add-t11 : tie.Need-add-t11 Inv-loop μ-loop
-add-t11 c = search needs
-
 returns : tie.Need-returns Inv-loop μ-loop
 returns c =
     let b = c .before .before .before .before in
     sym
     (each-map userTest userOf 1 _
     ∙ line-refused test _ _ (omega arith) (b .loop .inv .1) (ap (λ (t : Bool). when t 5 (b .loop .i + 1)) (sym (c .before .bad-user .ensures) ∙ c .if1 .taken)))
-
-add-i : tie.Need-add-i Inv-loop μ-loop
-add-i c = search needs
-
-loop-less : tie.Need-loop-less Inv-loop μ-loop
-loop-less c = search needs
 
 loop-again : tie.Need-loop-again Inv-loop μ-loop
 loop-again c =
@@ -70,13 +49,13 @@ users-verdict-spec =
     Inv-loop
     μ-loop
     loop-holds
-    add-bad-user
-    mul-bad-user
-    shared-slice-copy-out-bad-user
-    bad-user-requires
-    add-t11
+    (λ c. search needs)
+    (λ c. search needs)
+    (λ c. search needs)
+    (λ c κs. search needs)
+    (λ c. search needs)
     returns
-    add-i
-    loop-less
+    (λ c. search needs)
+    (λ c. search needs)
     loop-again
     returns-2)

@@ -6,12 +6,9 @@ use Rattle.rules.specs.Refusals.{badMonth}
 use Rattle.limits.proofs.months.bad_month.Statement.{statement}
 use Rattle.limits.proofs.months.bad_month.Tie as tie
 
-impossible-month-requires : tie.Need-impossible-month-requires
-impossible-month-requires c κs = search needs
-
 returns : tie.Need-returns
 unfolding badMonth
 returns c = let f = c .before .fits in simp (c .impossible-month .ensures, toZ-ofZ, f .month, f .last)
 
 pub bad-month-spec : {M : Type 1} → statement M
-bad-month-spec = tie.close (tie.spec impossible-month-requires returns)
+bad-month-spec = tie.close (tie.spec (λ c κs. search needs) returns)

@@ -27,18 +27,12 @@ rem-fits m e = let w = outside-false _ _ m e in omega (za, rem-small m (pos 100)
 in-range : (c : tie.Else1) → outside (pos 200001) (pos 209912) (c .before .before .args .m) ≡ false
 in-range c = simp (toZ-ofZ, c .before .before .fits .m) at (sym (c .before .outside .ensures) ∙ c .if1 .left)
 
-outside-requires : tie.Need-outside-requires
-outside-requires c κs = search needs
-
 returns : tie.Need-returns
 unfolding impossibleMonth
 returns c = rw (simp (toZ-ofZ, c .before .before .fits .m) at (sym (c .before .outside .ensures) ∙ c .if1 .taken))
 
 rem-outside : tie.Need-rem-outside
 rem-outside c = let s = c .before .before in simp (toZ-ofZ, s .fits .m) (search needs, quot-fits (s .args .m) (in-range c))
-
-outside-requires-2 : tie.Need-outside-requires-2
-outside-requires-2 c κs = search needs
 
 returns-2 : tie.Need-returns-2
 unfolding impossibleMonth
@@ -49,4 +43,4 @@ returns-2 c =
     rw e (rw (mm m (outside-false _ _ m e .above)) at (simp (toZ-ofZ, s .fits .m, rem-fits m e) at (c .outside2 .ensures)))
 
 pub impossible-month-spec : {M : Type 1} → statement M
-impossible-month-spec = tie.close (tie.spec outside-requires returns rem-outside outside-requires-2 returns-2)
+impossible-month-spec = tie.close (tie.spec (λ c κs. search needs) returns rem-outside (λ c κs. search needs) returns-2)

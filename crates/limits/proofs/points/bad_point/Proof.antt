@@ -8,30 +8,6 @@ use Rattle.rules.specs.Lines.{badPoint}
 use Rattle.limits.proofs.points.bad_point.Statement.{statement}
 use Rattle.limits.proofs.points.bad_point.Tie as tie
 
-bad-tariff-requires : tie.Need-bad-tariff-requires
-bad-tariff-requires c κs = search needs
-
-bad-tariff-requires-2 : tie.Need-bad-tariff-requires-2
-bad-tariff-requires-2 c κs = search needs
-
-bad-discount-requires : tie.Need-bad-discount-requires
-bad-discount-requires c κs = search needs
-
-bad-discount-requires-2 : tie.Need-bad-discount-requires-2
-bad-discount-requires-2 c κs = search needs
-
-bad-power-requires : tie.Need-bad-power-requires
-bad-power-requires c κs = search needs
-
-bad-power-requires-2 : tie.Need-bad-power-requires-2
-bad-power-requires-2 c κs = search needs
-
-bad-power-requires-3 : tie.Need-bad-power-requires-3
-bad-power-requires-3 c κs = search needs
-
-bad-power-requires-4 : tie.Need-bad-power-requires-4
-bad-power-requires-4 c κs = search needs
-
 returns : tie.Need-returns
 unfolding badPoint
 returns c =
@@ -50,12 +26,12 @@ pub bad-point-spec : {M : Type 1} → statement M
 bad-point-spec =
     tie.close
     (tie.spec
-    bad-tariff-requires
-    bad-tariff-requires-2
-    bad-discount-requires
-    bad-discount-requires-2
-    bad-power-requires
-    bad-power-requires-2
-    bad-power-requires-3
-    bad-power-requires-4
+    (λ c κs. search needs)
+    (λ c κs. search needs)
+    (λ c κs. search needs)
+    (λ c κs. search needs)
+    (λ c κs. search needs)
+    (λ c κs. search needs)
+    (λ c κs. search needs)
+    (λ c κs. search needs)
     returns)

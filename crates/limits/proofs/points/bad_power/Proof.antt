@@ -4,11 +4,8 @@ use mir.Facts.{toZ-ofZ}
 use Rattle.limits.proofs.points.bad_power.Statement.{statement}
 use Rattle.limits.proofs.points.bad_power.Tie as tie
 
-outside-requires : tie.Need-outside-requires
-outside-requires c κs = search needs
-
 returns : tie.Need-returns
 returns c = simp (toZ-ofZ, c .before .fits .x) at (c .outside .ensures)
 
 pub bad-power-spec : {M : Type 1} → statement M
-bad-power-spec = tie.close (tie.spec outside-requires returns)
+bad-power-spec = tie.close (tie.spec (λ c κs. search needs) returns)

@@ -42,12 +42,6 @@ module _ (xs : List (List ℤ)) where
       rw h (sym (ap (λ (v : User). v .kind) (List·getD-map userOf xs k [])))
   kind-at (negsuc k) e = let w = outside-false _ _ _ e in absurd (omega za)
 
-cast-outside : tie.Need-cast-outside
-cast-outside c = search needs
-
-outside-requires : tie.Need-outside-requires
-outside-requires c κs = search needs
-
 tested : (c : tie.After-outside) → c .outside .result ≡ outside (pos 1) (pos (length (c .before .args .users .now))) (c .before .args .user)
 tested c =
     let s = c .before in
@@ -82,9 +76,6 @@ mul-line c = simp (toZ-ofZ, s c .fits .user, at c .fits) (omega (arith, at c .at
 shared-slice-copy-out-line : tie.Need-shared-slice-copy-out-line
 shared-slice-copy-out-line c = simp (toZ-ofZ, s c .fits .user, at c .fits) (at c .at)
 
-array-copy-out-result : tie.Need-array-copy-out-result
-array-copy-out-result c = search needs
-
 returns-2 : tie.Need-returns-2
 returns-2 c =
     let d = c .before .before in
@@ -95,12 +86,12 @@ pub kind-of-spec : {M : Type 1} → statement M
 kind-of-spec =
     tie.close
     (tie.spec
-    cast-outside
-    outside-requires
+    (λ c. search needs)
+    (λ c κs. search needs)
     returns
     sub-line
     cast-line
     mul-line
     shared-slice-copy-out-line
-    array-copy-out-result
+    (λ c. search needs)
     returns-2)

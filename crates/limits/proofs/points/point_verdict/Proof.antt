@@ -15,20 +15,11 @@ use Rattle.rules.specs.Lines.{userOf, kindOf, badPoint, unfitPoint}
 use Rattle.limits.proofs.points.point_verdict.Statement.{statement}
 use Rattle.limits.proofs.points.point_verdict.Tie as tie
 
-bad-point-requires : tie.Need-bad-point-requires
-bad-point-requires c κs = search needs
-
 returns : tie.Need-returns
 returns c = rw (sym (c .before .bad-point .ensures) ∙ c .if1 .taken)
 
 range-fine : (c : tie.Else1) → badPoint (c .before .before .args .p) ≡ false
 range-fine c = sym (c .before .bad-point .ensures) ∙ c .if1 .left
-
-cast-outside : tie.Need-cast-outside
-cast-outside c = search needs
-
-outside-requires : tie.Need-outside-requires
-outside-requires c κs = search needs
 
 -- the test of 6, at the user lines as the definition has them
 tested : (c : tie.After-outside) → let s = c .before .before .before .before in c .outside .result ≡ outside (pos 1) (pos (length (map userOf (s .args .users .now)))) (s .args .p .user)
@@ -40,12 +31,6 @@ tested c =
 
 returns-2 : tie.Need-returns-2
 returns-2 c = rw (range-fine (c .before .before .before), sym (tested (c .before)) ∙ c .if2 .taken)
-
-kind-of-requires : tie.Need-kind-of-requires
-kind-of-requires c κs = search needs
-
-unfit-point-requires : tie.Need-unfit-point-requires
-unfit-point-requires c κs = search needs
 
 kind-told : (c : tie.After-unfit-point) → let s = c .before .before .before .before .before .before .before .before in c .unfit-point .result ≡ unfitPoint (kindOf (map userOf (s .args .users .now)) (s .args .p .user)) (s .args .p)
 kind-told c =
@@ -71,12 +56,12 @@ pub point-verdict-spec : {M : Type 1} → statement M
 point-verdict-spec =
     tie.close
     (tie.spec
-    bad-point-requires
+    (λ c κs. search needs)
     returns
-    cast-outside
-    outside-requires
+    (λ c. search needs)
+    (λ c κs. search needs)
     returns-2
-    kind-of-requires
-    unfit-point-requires
+    (λ c κs. search needs)
+    (λ c κs. search needs)
     returns-3
     returns-4)

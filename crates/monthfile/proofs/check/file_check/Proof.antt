@@ -16,8 +16,5 @@ files-requires : tie.Need-files-requires
 unfolding table format line more
 files-requires c κs = (refl, omega arith)
 
-returns-2 : tie.Need-returns-2
-returns-2 c = search needs
-
 pub file-check-spec : {M : Type 1} → statement M
-file-check-spec = tie.close (tie.spec returns files-requires returns-2)
+file-check-spec = tie.close (tie.spec returns files-requires (λ c. search needs))

@@ -18,12 +18,6 @@ abbrev μ-loop : tie.MeasureT-loop
 loop-holds : tie.Need-loop-holds Inv-loop μ-loop
 loop-holds c = (refl, same-start _)
 
-scan-by-requires : tie.Need-scan-by-requires Inv-loop μ-loop
-scan-by-requires c κs = search needs
-
-enum-known-n : tie.Need-enum-known-n Inv-loop μ-loop
-enum-known-n c = search needs
-
 returns : tie.Need-returns Inv-loop μ-loop
 returns c =
     let at = c .before .before .before .before .before in
@@ -42,9 +36,6 @@ loop-again c =
     let e = sym (c .before .before .before .before .scan-by .ensures .0) ∙ c .before .before .n .given .1 in
     (at .loop .inv .0, goes-on _ _ (at .loop .inv .1) _ (at .loop .inv .0) _ e (c .if1 .left))
 
-enum-known-p : tie.Need-enum-known-p Inv-loop μ-loop
-enum-known-p c = search needs
-
 cast-result : tie.Need-cast-result Inv-loop μ-loop
 cast-result c =
     let at = c .before .before .before .before in
@@ -57,9 +48,6 @@ returns-2 c =
     let e = sym (c .before .before .before .scan-by .ensures .0) ∙ c .before .p .given .1 in
     let w = subst (Within _ 0) (c .before .p .given .1) (c .before .before .before .scan-by .ensures .1) in
     comes-back _ _ (at .loop .inv .1) _ (at .loop .inv .0) (omega arith) _ e w
-
-enum-known-p-2 : tie.Need-enum-known-p-2 Inv-loop μ-loop
-enum-known-p-2 c = search needs
 
 cast-result-2 : tie.Need-cast-result-2 Inv-loop μ-loop
 cast-result-2 c =
@@ -80,14 +68,14 @@ files-spec =
     Inv-loop
     μ-loop
     loop-holds
-    scan-by-requires
-    enum-known-n
+    (λ c κs. search needs)
+    (λ c. search needs)
     returns
     loop-less
     loop-again
-    enum-known-p
+    (λ c. search needs)
     cast-result
     returns-2
-    enum-known-p-2
+    (λ c. search needs)
     cast-result-2
     returns-3)

@@ -10,23 +10,11 @@ use borrow.Author.Needs.{needs}
 use Rattle.monthfile.proofs.line.entry.Statement.{statement}
 use Rattle.monthfile.proofs.line.entry.Tie as tie
 
-value-requires : tie.Need-value-requires
-value-requires c κs = search needs
-
-enum-known-n : tie.Need-enum-known-n
-enum-known-n c = search needs
-
 returns : tie.Need-returns
 returns c k e =
     let v = told _ _ _ _ (c .before .before .n .given .1) (c .before .before .before .before .value .ensures k) in
     let w = v .within in
     after _ _ _ _ _ _ (w .0) (v .goes) (faulty _ _ _ _ (w .1) (λ f. text-end _ k f _ nought (c .if1 .taken)))
-
-shared-slice-read-if2 : tie.Need-shared-slice-read-if2
-shared-slice-read-if2 c = search needs
-
-add-t13 : tie.Need-add-t13
-add-t13 c = search needs
 
 returns-2 : tie.Need-returns-2
 returns-2 c k e =
@@ -34,12 +22,6 @@ returns-2 c k e =
     let w = v .within in
     after _ _ _ _ _ _ (w .0) (v .goes)
     (passed _ _ _ _ _ (omega arith) (omega arith) (λ f. closes _ k _ (omega arith) (c .if2 .taken ∙ e) f))
-
-enum-known-p : tie.Need-enum-known-p
-enum-known-p c = search needs
-
-enum-known-p-2 : tie.Need-enum-known-p-2
-enum-known-p-2 c = search needs
 
 returns-3 : tie.Need-returns-3
 returns-3 c k e =
@@ -58,14 +40,14 @@ pub entry-spec : {M : Type 1} → statement M
 entry-spec =
     tie.close
     (tie.spec
-    value-requires
-    enum-known-n
+    (λ c κs. search needs)
+    (λ c. search needs)
     returns
-    shared-slice-read-if2
-    add-t13
+    (λ c. search needs)
+    (λ c. search needs)
     returns-2
-    enum-known-p
-    enum-known-p-2
+    (λ c. search needs)
+    (λ c. search needs)
     returns-3
     returns-4
     returns-5)

@@ -25,20 +25,11 @@ loop-holds c = (omega arith, (omega arith, λ f. refl))
 entry-requires : tie.Need-entry-requires Inv-loop μ-loop
 entry-requires c κs = omega arith
 
-enum-known-n : tie.Need-enum-known-n Inv-loop μ-loop
-enum-known-n c = search needs
-
-enum-known-p : tie.Need-enum-known-p Inv-loop μ-loop
-enum-known-p c = search needs
-
 returns : tie.Need-returns Inv-loop μ-loop
 returns c =
     let at = c .before .before .before .before .before in
     let e = c .before .before .before .entry .ensures (at .loop .left) (comma-next (at .loop .left) (omega arith)) in
     after _ _ _ _ _ _ (omega arith) (at .loop .inv .1 .1) (stays-faulty _ _ _ _ _ _ (told _ _ _ _ (c .before .p .given .1) e))
-
-enum-known-p-2 : tie.Need-enum-known-p-2 Inv-loop μ-loop
-enum-known-p-2 c = search needs
 
 returns-2 : tie.Need-returns-2 Inv-loop μ-loop
 returns-2 c =
@@ -78,10 +69,10 @@ line-spec =
     μ-loop
     loop-holds
     entry-requires
-    enum-known-n
-    enum-known-p
+    (λ c. search needs)
+    (λ c. search needs)
     returns
-    enum-known-p-2
+    (λ c. search needs)
     returns-2
     sub-left
     loop-less

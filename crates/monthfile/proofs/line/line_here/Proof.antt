@@ -7,12 +7,6 @@ use borrow.Author.Needs.{needs}
 use Rattle.monthfile.proofs.line.line_here.Statement.{statement}
 use Rattle.monthfile.proofs.line.line_here.Tie as tie
 
-shared-slice-read-starts-line : tie.Need-shared-slice-read-starts-line
-shared-slice-read-starts-line c = search needs
-
-starts-line-requires : tie.Need-starts-line-requires
-starts-line-requires c κs = search needs
-
 returns : tie.Need-returns
 returns c = c .starts-line .ensures ∙ sym (ap lineHere (here _ _ (c .before .before .if1 .taken)))
 
@@ -21,4 +15,4 @@ returns-2 c = sym (ap lineHere (drop-of-length-le _ (c .if1 .left)))
 
 pub line-here-spec : {M : Type 1} → statement M
 line-here-spec =
-    tie.close (tie.spec shared-slice-read-starts-line starts-line-requires returns returns-2)
+    tie.close (tie.spec (λ c. search needs) (λ c κs. search needs) returns returns-2)

@@ -37,12 +37,6 @@ returns c =
 line-requires : tie.Need-line-requires Inv-loop μ-loop
 line-requires c κs = omega arith
 
-enum-known-n : tie.Need-enum-known-n Inv-loop μ-loop
-enum-known-n c = search needs
-
-enum-known-p : tie.Need-enum-known-p Inv-loop μ-loop
-enum-known-p c = search needs
-
 returns-2 : tie.Need-returns-2 Inv-loop μ-loop
 returns-2 c =
     let at = c .before .before .before .before .before .before .before in
@@ -50,9 +44,6 @@ returns-2 c =
     let e = before _ _ _ _ (one-less (at .loop .left) _) (told _ _ _ _ (c .before .p .given .1) (c .before .before .before .line .ensures)) in
     after _ _ _ _ _ _ (omega arith) (λ f. at .loop .inv .1 .1 f ∙ line-on _ _ _ f l _ (omega arith))
     (stays-faulty _ _ _ _ _ _ e)
-
-enum-known-p-2 : tie.Need-enum-known-p-2 Inv-loop μ-loop
-enum-known-p-2 c = search needs
 
 returns-3 : tie.Need-returns-3 Inv-loop μ-loop
 returns-3 c =
@@ -92,10 +83,10 @@ lines-spec =
     line-here-requires
     returns
     line-requires
-    enum-known-n
-    enum-known-p
+    (λ c. search needs)
+    (λ c. search needs)
     returns-2
-    enum-known-p-2
+    (λ c. search needs)
     returns-3
     sub-left
     loop-less

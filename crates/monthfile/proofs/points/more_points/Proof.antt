@@ -4,9 +4,6 @@ use borrow.Author.Needs.{needs}
 use Rattle.monthfile.proofs.points.more_points.Statement.{statement}
 use Rattle.monthfile.proofs.points.more_points.Tie as tie
 
-line-here-requires : tie.Need-line-here-requires
-line-here-requires c κs = search needs
-
 returns : tie.Need-returns
 returns c = let l = lt-ltb _ _ (c .before .if1 .taken) in rw l (c .line-here .ensures)
 
@@ -14,4 +11,4 @@ returns-2 : tie.Need-returns-2
 returns-2 c = let l = le-ltb _ _ (c .if1 .left) in rw l
 
 pub more-points-spec : {M : Type 1} → statement M
-more-points-spec = tie.close (tie.spec line-here-requires returns returns-2)
+more-points-spec = tie.close (tie.spec (λ c κs. search needs) returns returns-2)

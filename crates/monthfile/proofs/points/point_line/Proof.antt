@@ -10,39 +10,6 @@ use borrow.Author.Needs.{needs}
 use Rattle.monthfile.proofs.points.point_line.Statement.{statement}
 use Rattle.monthfile.proofs.points.point_line.Tie as tie
 
-slice-aggregate-line-at : tie.Need-slice-aggregate-line-at
-slice-aggregate-line-at c = search needs
-
-line-at-requires : tie.Need-line-at-requires
-line-at-requires c κs = search needs
-
-array-copy-out-t10 : tie.Need-array-copy-out-t10
-array-copy-out-t10 c = search needs
-
-array-copy-out-t13 : tie.Need-array-copy-out-t13
-array-copy-out-t13 c = search needs
-
-array-copy-out-t16 : tie.Need-array-copy-out-t16
-array-copy-out-t16 c = search needs
-
-array-copy-out-t19 : tie.Need-array-copy-out-t19
-array-copy-out-t19 c = search needs
-
-array-copy-out-t22 : tie.Need-array-copy-out-t22
-array-copy-out-t22 c = search needs
-
-array-copy-out-t25 : tie.Need-array-copy-out-t25
-array-copy-out-t25 c = search needs
-
-array-copy-out-t28 : tie.Need-array-copy-out-t28
-array-copy-out-t28 c = search needs
-
-array-copy-out-t31 : tie.Need-array-copy-out-t31
-array-copy-out-t31 c = search needs
-
-array-copy-out-t34 : tie.Need-array-copy-out-t34
-array-copy-out-t34 c = search needs
-
 returns : tie.Need-returns
 returns c =
     let row = c .before .before .before .before .before .before .before .before .before .before .line-at .last .1 .1 .0 in
@@ -63,15 +30,15 @@ pub point-line-spec : {M : Type 1} → statement M
 point-line-spec =
     tie.close
     (tie.spec
-    slice-aggregate-line-at
-    line-at-requires
-    array-copy-out-t10
-    array-copy-out-t13
-    array-copy-out-t16
-    array-copy-out-t19
-    array-copy-out-t22
-    array-copy-out-t25
-    array-copy-out-t28
-    array-copy-out-t31
-    array-copy-out-t34
+    (λ c. search needs)
+    (λ c κs. search needs)
+    (λ c. search needs)
+    (λ c. search needs)
+    (λ c. search needs)
+    (λ c. search needs)
+    (λ c. search needs)
+    (λ c. search needs)
+    (λ c. search needs)
+    (λ c. search needs)
+    (λ c. search needs)
     returns)

@@ -8,15 +8,6 @@ use borrow.Author.Needs.{needs}
 use Rattle.monthfile.proofs.reading.finish.Statement.{statement}
 use Rattle.monthfile.proofs.reading.finish.Tie as tie
 
-enum-known-verdict : tie.Need-enum-known-verdict
-enum-known-verdict c = search needs
-
-enum-known-verdict-2 : tie.Need-enum-known-verdict-2
-enum-known-verdict-2 c = search needs
-
-enum-known-verdict-3 : tie.Need-enum-known-verdict-3
-enum-known-verdict-3 c = search needs
-
 returns : tie.Need-returns
 returns c =
     let b = c .before .before .before .before .args .b in
@@ -34,9 +25,9 @@ pub finish-spec : {M : Type 1} → statement M
 finish-spec =
     tie.close
     (tie.spec
-    enum-known-verdict
-    enum-known-verdict-2
-    enum-known-verdict-3
+    (λ c. search needs)
+    (λ c. search needs)
+    (λ c. search needs)
     returns
     returns-2
     returns-3)

@@ -9,21 +9,6 @@ use borrow.Author.Needs.{needs}
 use Rattle.monthfile.proofs.reading.month_at.Statement.{statement}
 use Rattle.monthfile.proofs.reading.month_at.Tie as tie
 
-line-here-requires : tie.Need-line-here-requires
-line-here-requires c κs = search needs
-
-value-at-requires : tie.Need-value-at-requires
-value-at-requires c κs = search needs
-
-on-requires : tie.Need-on-requires
-on-requires c κs = search needs
-
-value-at-requires-2 : tie.Need-value-at-requires-2
-value-at-requires-2 c κs = search needs
-
-on-requires-2 : tie.Need-on-requires-2
-on-requires-2 c κs = search needs
-
 returns : tie.Need-returns
 returns c =
     let m = c .before .before .before .before .before .value-at in
@@ -41,10 +26,10 @@ pub month-at-spec : {M : Type 1} → statement M
 month-at-spec =
     tie.close
     (tie.spec
-    line-here-requires
-    value-at-requires
-    on-requires
-    value-at-requires-2
-    on-requires-2
+    (λ c κs. search needs)
+    (λ c κs. search needs)
+    (λ c κs. search needs)
+    (λ c κs. search needs)
+    (λ c κs. search needs)
     returns
     returns-2)

@@ -22,9 +22,6 @@ loop-holds c = (omega arith, (omega arith, (refl, block-none _ _ _ _ _ _)))
 line-here-requires : tie.Need-line-here-requires Inv-loop μ-loop
 line-here-requires c κs = omega arith
 
-slice-aggregate-line-at : tie.Need-slice-aggregate-line-at Inv-loop μ-loop
-slice-aggregate-line-at c = search needs
-
 line-at-requires : tie.Need-line-at-requires Inv-loop μ-loop
 line-at-requires c κs = omega arith
 
@@ -68,7 +65,7 @@ users-at-spec =
     μ-loop
     loop-holds
     line-here-requires
-    slice-aggregate-line-at
+    (λ c. search needs)
     line-at-requires
     mul-t13
     slice-set-from-users

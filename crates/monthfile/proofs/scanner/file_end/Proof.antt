@@ -8,9 +8,6 @@ use Rattle.monthfile.proofs.scanner.file_end.Tie as tie
 returns : tie.Need-returns
 returns c = (over _ _ (c .if1 .taken), (omega arith, omega arith))
 
-shared-slice-read-if2 : tie.Need-shared-slice-read-if2
-shared-slice-read-if2 c = search needs
-
 returns-2 : tie.Need-returns-2
 returns-2 c = (over-m _ _ (omega arith) (c .if2 .taken), (omega arith, omega arith))
 
@@ -18,4 +15,4 @@ returns-3 : tie.Need-returns-3
 returns-3 c = (over-not _ _ (omega arith) (c .if2 .left), omega arith)
 
 pub file-end-spec : {M : Type 1} → statement M
-file-end-spec = tie.close (tie.spec returns shared-slice-read-if2 returns-2 returns-3)
+file-end-spec = tie.close (tie.spec returns (λ c. search needs) returns-2 returns-3)

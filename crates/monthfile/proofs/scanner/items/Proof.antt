@@ -29,9 +29,6 @@ mul-code c = omega arith
 element-copy-out-code : tie.Need-element-copy-out-code Inv-loop μ-loop
 element-copy-out-code c = omega arith
 
-room-at-requires : tie.Need-room-at-requires Inv-loop μ-loop
-room-at-requires c κs = search needs
-
 add-j : tie.Need-add-j Inv-loop μ-loop
 add-j c = omega arith
 
@@ -72,9 +69,6 @@ returns c =
 block-requires : tie.Need-block-requires Inv-loop μ-loop
 block-requires c κs = (c .if1 .left, omega arith)
 
-enum-known-n : tie.Need-enum-known-n Inv-loop μ-loop
-enum-known-n c = search needs
-
 loop-less-2 : tie.Need-loop-less-2 Inv-loop μ-loop
 loop-less-2 c = omega arith
 
@@ -88,9 +82,6 @@ loop-again-2 c =
     (c .before .before .before .before .before .room-at .ensures) x in
     (omega arith, (omega arith, loop .loop .inv .1 .1 ∙ e))
 
-enum-known-p : tie.Need-enum-known-p Inv-loop μ-loop
-enum-known-p c = search needs
-
 returns-2 : tie.Need-returns-2 Inv-loop μ-loop
 returns-2 c =
     let loop = c .before .before .before .before .before .before .before .before in
@@ -100,9 +91,6 @@ returns-2 c =
     entry-passed _ _ _ _ _ (loop .loop .j) _ _ _ (omega arith) (ap (λ (xs : List ℕ). getD xs (loop .loop .j) 0) (loop .before .before .pre .0))
     (c .before .before .before .before .before .room-at .ensures) x in
     (sym (loop .loop .inv .1 .1 ∙ e), w)
-
-enum-known-p-2 : tie.Need-enum-known-p-2 Inv-loop μ-loop
-enum-known-p-2 c = search needs
 
 returns-3 : tie.Need-returns-3 Inv-loop μ-loop
 returns-3 c =
@@ -134,7 +122,7 @@ items-spec =
     loop-holds
     mul-code
     element-copy-out-code
-    room-at-requires
+    (λ c κs. search needs)
     add-j
     name-here-requires
     add-here
@@ -142,12 +130,12 @@ items-spec =
     loop-again
     returns
     block-requires
-    enum-known-n
+    (λ c. search needs)
     loop-less-2
     loop-again-2
-    enum-known-p
+    (λ c. search needs)
     returns-2
-    enum-known-p-2
+    (λ c. search needs)
     returns-3
     file-end-requires
     returns-4)

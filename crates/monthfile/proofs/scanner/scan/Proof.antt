@@ -11,8 +11,5 @@ scan-by-requires : tie.Need-scan-by-requires
 unfolding table format line more
 scan-by-requires c κs = refl
 
-returns : tie.Need-returns
-returns c = search needs
-
 pub scan-spec : {M : Type 1} → statement M
-scan-spec = tie.close (tie.spec scan-by-requires returns)
+scan-spec = tie.close (tie.spec scan-by-requires (λ c. search needs))

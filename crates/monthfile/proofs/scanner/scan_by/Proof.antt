@@ -7,12 +7,6 @@ use borrow.Author.Needs.{needs}
 use Rattle.monthfile.proofs.scanner.scan_by.Statement.{statement}
 use Rattle.monthfile.proofs.scanner.scan_by.Tie as tie
 
-smaller-requires : tie.Need-smaller-requires
-smaller-requires c κs = search needs
-
-items-requires : tie.Need-items-requires
-items-requires c κs = search needs
-
 returns : tie.Need-returns
 returns c = (
   c .items .ensures .0 ∙ at-position _ _ _ _ (c .before .smaller .ensures .0),
@@ -20,4 +14,4 @@ returns c = (
 )
 
 pub scan-by-spec : {M : Type 1} → statement M
-scan-by-spec = tie.close (tie.spec smaller-requires items-requires returns)
+scan-by-spec = tie.close (tie.spec (λ c κs. search needs) (λ c κs. search needs) returns)

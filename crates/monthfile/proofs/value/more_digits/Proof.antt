@@ -14,17 +14,11 @@ Inv-loop text i end at₀ at =
 abbrev μ-loop : tie.MeasureT-loop
 μ-loop text i end at₀ at = end - at
 
-last-digit-requires : tie.Need-last-digit-requires Inv-loop μ-loop
-last-digit-requires c κs = search needs
-
 loop-holds : tie.Need-loop-holds Inv-loop μ-loop
 loop-holds c = (omega arith, (omega arith, behind-none _ _))
 
 shared-slice-read-is-digit : tie.Need-shared-slice-read-is-digit Inv-loop μ-loop
 shared-slice-read-is-digit c = omega arith
-
-is-digit-requires : tie.Need-is-digit-requires Inv-loop μ-loop
-is-digit-requires c κs = search needs
 
 add-at : tie.Need-add-at Inv-loop μ-loop
 add-at c = omega arith
@@ -61,10 +55,10 @@ more-digits-spec =
     (tie.spec
     Inv-loop
     μ-loop
-    last-digit-requires
+    (λ c κs. search needs)
     loop-holds
     shared-slice-read-is-digit
-    is-digit-requires
+    (λ c κs. search needs)
     add-at
     loop-less
     loop-again

@@ -12,18 +12,6 @@ use Rattle.monthfile.proofs.value.size.Tie as tie
 returns : tie.Need-returns
 returns c k = faulty _ _ _ _ (omega arith) (λ f. text-end _ k f _ signed (c .if1 .taken))
 
-shared-slice-read-is-lead : tie.Need-shared-slice-read-is-lead
-shared-slice-read-is-lead c = search needs
-
-is-lead-requires : tie.Need-is-lead-requires
-is-lead-requires c κs = search needs
-
-add-more-digits : tie.Need-add-more-digits
-add-more-digits c = search needs
-
-more-digits-requires : tie.Need-more-digits-requires
-more-digits-requires c κs = search needs
-
 returns-2 : tie.Need-returns-2
 returns-2 c k =
     after _ _ _ _ _ _ (omega arith)
@@ -39,9 +27,9 @@ size-spec =
     tie.close
     (tie.spec
     returns
-    shared-slice-read-is-lead
-    is-lead-requires
-    add-more-digits
-    more-digits-requires
+    (λ c. search needs)
+    (λ c κs. search needs)
+    (λ c. search needs)
+    (λ c κs. search needs)
     returns-2
     returns-3)

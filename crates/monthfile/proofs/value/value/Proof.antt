@@ -11,29 +11,11 @@ use Rattle.monthfile.proofs.value.value.Tie as tie
 returns : tie.Need-returns
 returns c k = faulty _ _ _ _ (omega arith) (λ f. text-end _ k f _ fresh (c .if1 .taken))
 
-shared-slice-read-if2 : tie.Need-shared-slice-read-if2
-shared-slice-read-if2 c = search needs
-
-add-t7 : tie.Need-add-t7
-add-t7 c = search needs
-
 returns-2 : tie.Need-returns-2
 returns-2 c k = passed _ _ _ _ _ (omega arith) (omega arith) (λ f. nought-on _ k f _ (omega arith) (c .if2 .taken))
 
-shared-slice-read-if3 : tie.Need-shared-slice-read-if3
-shared-slice-read-if3 c = search needs
-
-add-size : tie.Need-add-size
-add-size c = search needs
-
-size-requires : tie.Need-size-requires
-size-requires c κs = search needs
-
 returns-3 : tie.Need-returns-3
 returns-3 c k = after _ _ _ _ _ _ (omega arith) (λ f. minus-on _ k f _ (omega arith) (c .before .if3 .taken)) (c .size .ensures k)
-
-size-requires-2 : tie.Need-size-requires-2
-size-requires-2 c κs = search needs
 
 returns-4 : tie.Need-returns-4
 returns-4 c k = after _ _ _ _ _ _ (omega arith) (λ f. plain-like _ k f _ (omega arith) (c .before .before .before .if2 .left) (c .before .if3 .left)) (c .size2 .ensures k)
@@ -43,12 +25,12 @@ value-spec =
     tie.close
     (tie.spec
     returns
-    shared-slice-read-if2
-    add-t7
+    (λ c. search needs)
+    (λ c. search needs)
     returns-2
-    shared-slice-read-if3
-    add-size
-    size-requires
+    (λ c. search needs)
+    (λ c. search needs)
+    (λ c κs. search needs)
     returns-3
-    size-requires-2
+    (λ c κs. search needs)
     returns-4)

@@ -30,12 +30,6 @@ returns c =
 shared-slice-read-wide : tie.Need-shared-slice-read-wide Inv-loop μ-loop
 shared-slice-read-wide c = omega arith
 
-wide-requires : tie.Need-wide-requires Inv-loop μ-loop
-wide-requires c κs = search needs
-
-is-digit-requires : tie.Need-is-digit-requires Inv-loop μ-loop
-is-digit-requires c κs = search needs
-
 mul-number : tie.Need-mul-number Inv-loop μ-loop
 mul-number c =
     let l = c .before .before .before .before .before .before .loop in
@@ -101,8 +95,8 @@ digits-at-spec =
     loop-holds
     returns
     shared-slice-read-wide
-    wide-requires
-    is-digit-requires
+    (λ c κs. search needs)
+    (λ c κs. search needs)
     mul-number
     sub-number
     add-number

@@ -8,29 +8,11 @@ use Rattle.monthfile.proofs.values.value_at.Tie as tie
 returns : tie.Need-returns
 returns c = no-value _ _ (omega arith) (c .if1 .taken)
 
-shared-slice-read-if2 : tie.Need-shared-slice-read-if2
-shared-slice-read-if2 c = search needs
-
-add-digits-at : tie.Need-add-digits-at
-add-digits-at c = search needs
-
-digits-at-requires : tie.Need-digits-at-requires
-digits-at-requires c κs = search needs
-
-cast-t10 : tie.Need-cast-t10
-cast-t10 c = search needs
-
 sub-t11 : tie.Need-sub-t11
 sub-t11 c = minus-fits _ (c .before .digits-at .ensures .small)
 
 returns-2 : tie.Need-returns-2
 returns-2 c = after-minus _ _ (omega arith) _ (c .before .before .if2 .taken) (c .before .digits-at .ensures)
-
-digits-at-requires-2 : tie.Need-digits-at-requires-2
-digits-at-requires-2 c κs = search needs
-
-cast-t12 : tie.Need-cast-t12
-cast-t12 c = search needs
 
 returns-3 : tie.Need-returns-3
 returns-3 c = no-minus _ _ (omega arith) _ (c .before .before .if2 .left) (c .before .digits-at2 .ensures)
@@ -40,12 +22,12 @@ value-at-spec =
     tie.close
     (tie.spec
     returns
-    shared-slice-read-if2
-    add-digits-at
-    digits-at-requires
-    cast-t10
+    (λ c. search needs)
+    (λ c. search needs)
+    (λ c κs. search needs)
+    (λ c. search needs)
     sub-t11
     returns-2
-    digits-at-requires-2
-    cast-t12
+    (λ c κs. search needs)
+    (λ c. search needs)
     returns-3)

@@ -5,22 +5,10 @@ use Rattle.runs.proofs.Digits.{few-digits}
 use Rattle.runs.proofs.lines.put_number.Statement.{statement}
 use Rattle.runs.proofs.lines.put_number.Tie as tie
 
-decimal-requires : tie.Need-decimal-requires
-decimal-requires c κs = search needs
-
-array-share-prefix-digits : tie.Need-array-share-prefix-digits
-array-share-prefix-digits c = search needs
-
-slice-aggregate-put : tie.Need-slice-aggregate-put
-slice-aggregate-put c = search needs
-
 put-requires : tie.Need-put-requires
 put-requires c κs =
     let d = c .before .before in
     omega (arith, few-digits (d .before .before .before .fits .n .fits) (d .decimal .ensures .1 .0), d .decimal .ensures .0 .1)
-
-same-length : tie.Need-same-length
-same-length c = search needs
 
 returns : tie.Need-returns
 returns c =
@@ -31,9 +19,9 @@ pub put-number-spec : {M : Type 1} → statement M
 put-number-spec =
     tie.close
     (tie.spec
-    decimal-requires
-    array-share-prefix-digits
-    slice-aggregate-put
+    (λ c κs. search needs)
+    (λ c. search needs)
+    (λ c. search needs)
     put-requires
-    same-length
+    (λ c. search needs)
     returns)

@@ -35,14 +35,8 @@ add-result-2 c =
     simp (toZ-ofZ, c .before .fits .x, one-more c, turned c)
     (omega (za, back# (c .before .fits .x), one# x, one# (x +ℤ pos 1), add# x (pos 1), sub# (pos 0) (x +ℤ pos 1), abs-is (pos 0 -ℤ (x +ℤ pos 1))))
 
-returns : tie.Need-returns
-returns c = search needs
-
 cast-result-2 : tie.Need-cast-result-2
 cast-result-2 c = simp (toZ-ofZ, c .before .fits .x) (omega (za, back# (c .before .fits .x)))
 
-returns-2 : tie.Need-returns-2
-returns-2 c = search needs
-
 pub size-spec : {M : Type 1} → statement M
-size-spec = tie.close (tie.spec add-result sub-result cast-result add-result-2 returns cast-result-2 returns-2)
+size-spec = tie.close (tie.spec add-result sub-result cast-result add-result-2 (λ c. search needs) cast-result-2 (λ c. search needs))

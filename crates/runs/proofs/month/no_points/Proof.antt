@@ -7,12 +7,9 @@ use Rattle.runs.specs.Runs.{noPoints}
 use Rattle.runs.proofs.month.no_points.Statement.{statement}
 use Rattle.runs.proofs.month.no_points.Tie as tie
 
-no-point-requires : tie.Need-no-point-requires
-no-point-requires c κs = search needs
-
 returns : tie.Need-returns
 unfolding noPoints
 returns c = ap (λ (p : Point). replicate 256 p) (c .no-point .ensures)
 
 pub no-points-spec : {M : Type 1} → statement M
-no-points-spec = tie.close (tie.spec no-point-requires returns)
+no-points-spec = tie.close (tie.spec (λ c κs. search needs) returns)

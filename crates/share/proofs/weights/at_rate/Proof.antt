@@ -18,24 +18,12 @@ part c =
     let e = c .part-at .ensures in
     (rw e (div-add-mod' (a .k .part * a .t) (a .w)), rw e (mod-lt (a .k .part * a .t) (omega (arith, s .pre .0 .less))))
 
-multiply-requires : tie.Need-multiply-requires
-multiply-requires c κs = search needs
-
-div-t7 : tie.Need-div-t7
-div-t7 c = search needs
-
-rem-t8 : tie.Need-rem-t8
-rem-t8 c = search needs
-
 returns : tie.Need-returns
 returns c =
     let a = c .before .before .before .before .before .args in
     let m = c .before .before .before .before .multiply .ensures in
     let e : c .before .before .before .before .multiply .result .low ≡ a .k .size * a .t = one-word (a .k .size * a .t) (ap (λ (n : Words). n .high) (sym m) ∙ c .before .before .if1 .taken) (ap (λ (n : Words). n .low) m) in
     ap (λ (n : ℕ). divided n (a .w)) e
-
-part-at-requires : tie.Need-part-at-requires
-part-at-requires c κs = search needs
 
 mul-t9 : tie.Need-mul-t9
 mul-t9 c =
@@ -62,4 +50,4 @@ returns-2 c =
 pub at-rate-spec : {M : Type 1} → statement M
 at-rate-spec =
     tie.close
-    (tie.spec multiply-requires div-t7 rem-t8 returns part-at-requires mul-t9 add-t10 returns-2)
+    (tie.spec (λ c κs. search needs) (λ c. search needs) (λ c. search needs) returns (λ c κs. search needs) mul-t9 add-t10 returns-2)

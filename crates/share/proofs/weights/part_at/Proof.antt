@@ -29,21 +29,6 @@ left c =
 small : {q t : ℕ} → q < 2 * t + 1 → t ≤ 100000000000000000 → Fits w64 (q + 1)
 small h k = omega arith
 
-mul-multiply : tie.Need-mul-multiply
-mul-multiply c = search needs
-
-multiply-requires : tie.Need-multiply-requires
-multiply-requires c κs = search needs
-
-multiply-requires-2 : tie.Need-multiply-requires-2
-multiply-requires-2 c κs = search needs
-
-multiply-requires-3 : tie.Need-multiply-requires-3
-multiply-requires-3 c κs = search needs
-
-wrapping-sub-u64-requires : tie.Need-wrapping-sub-u64-requires
-wrapping-sub-u64-requires c κs = search needs
-
 returns : tie.Need-returns
 returns c = divided-is _ _ (c .before .before .before .before .multiply .result .high) (c .before .wrapping-sub-u64 .result) _ refl refl (omega (arith, left (c .before))) (c .if1 .taken)
 
@@ -63,11 +48,11 @@ pub part-at-spec : {M : Type 1} → statement M
 part-at-spec =
     tie.close
     (tie.spec
-    mul-multiply
-    multiply-requires
-    multiply-requires-2
-    multiply-requires-3
-    wrapping-sub-u64-requires
+    (λ c. search needs)
+    (λ c κs. search needs)
+    (λ c κs. search needs)
+    (λ c κs. search needs)
+    (λ c κs. search needs)
     returns
     add-t9
     returns-2)

@@ -8,14 +8,8 @@ use Rattle.wide.specs.declared.Divided.{Divided}
 use Rattle.share.proofs.weights.rate_of.Statement.{statement}
 use Rattle.share.proofs.weights.rate_of.Tie as tie
 
-rem-part : tie.Need-rem-part
-rem-part c = search needs
-
 scaled-requires : tie.Need-scaled-requires
 scaled-requires c κs = (omega (arith, mod-lt (c .args .size) (c .pre .0)), c .pre .0)
-
-div-t5 : tie.Need-div-t5
-div-t5 c = search needs
 
 returns : tie.Need-returns
 returns c =
@@ -34,4 +28,4 @@ returns c =
     )
 
 pub rate-of-spec : {M : Type 1} → statement M
-rate-of-spec = tie.close (tie.spec rem-part scaled-requires div-t5 returns)
+rate-of-spec = tie.close (tie.spec (λ c. search needs) scaled-requires (λ c. search needs) returns)

@@ -30,17 +30,8 @@ abbrev μ-loop : tie.MeasureT-loop
 same : (s : tie.Start Inv-loop μ-loop) (month : ℤ) → length (agentRowsOf month (s .args .vmant .now) (s .args .vc .now) (map agentOf (s .args .agents .now))) ≡ length (s .args .out .now)
 same s month = length-agentRows month (s .args .vmant .now) (s .args .vc .now) (s .args .agents .now) ∙ sym (s .pre .4)
 
-cycle-month-requires : tie.Need-cycle-month-requires Inv-loop μ-loop
-cycle-month-requires c κs = search needs
-
 loop-holds : tie.Need-loop-holds Inv-loop μ-loop
 loop-holds c = filling-none _ _
-
-mul-line : tie.Need-mul-line Inv-loop μ-loop
-mul-line c = search needs
-
-shared-slice-copy-out-line : tie.Need-shared-slice-copy-out-line Inv-loop μ-loop
-shared-slice-copy-out-line c = search needs
 
 -- the line at i is in its ranges
 fits : (c : tie.In-loop Inv-loop μ-loop) → AmountsFit (agentOf (getD (c .before .before .before .args .agents .now) (c .before .loop .i) []))
@@ -55,9 +46,6 @@ cycle-fits c = search needs
 vmst-requires : tie.Need-vmst-requires Inv-loop μ-loop
 vmst-requires c κs = fits (c .before)
 
-array-copy-out-vmpa : tie.Need-array-copy-out-vmpa Inv-loop μ-loop
-array-copy-out-vmpa c = search needs
-
 vmpa-requires : tie.Need-vmpa-requires Inv-loop μ-loop
 vmpa-requires c κs =
     let l = c .before .before .before in
@@ -65,35 +53,11 @@ vmpa-requires c κs =
     let f = fits l .pa in
     rw (toZ-ofZ (cycle-fits m), cycle-is m, toZ-ofZ (correction f .fits)) (cycle-within (m .before .args .month) (possible (m .before .args .month) (m .before .pre .0)), f)
 
-mul-t14 : tie.Need-mul-t14 Inv-loop μ-loop
-mul-t14 c = search needs
-
-shared-slice-copy-out-t19 : tie.Need-shared-slice-copy-out-t19 Inv-loop μ-loop
-shared-slice-copy-out-t19 c = search needs
-
-array-copy-out-t23 : tie.Need-array-copy-out-t23 Inv-loop μ-loop
-array-copy-out-t23 c = search needs
-
-mul-t24 : tie.Need-mul-t24 Inv-loop μ-loop
-mul-t24 c = search needs
-
-shared-slice-copy-out-t26 : tie.Need-shared-slice-copy-out-t26 Inv-loop μ-loop
-shared-slice-copy-out-t26 c = search needs
-
-mul-row : tie.Need-mul-row Inv-loop μ-loop
-mul-row c = search needs
-
 slice-set-from-row : tie.Need-slice-set-from-row Inv-loop μ-loop
 slice-set-from-row c =
     let l = c .before .before .before .before .before .before .before in
     let s = l .before .before .before in
     omega (arith, filling-long (same s _) (l .before .loop .inv), l .loop-test .taken, s .pre .4)
-
-add-i : tie.Need-add-i Inv-loop μ-loop
-add-i c = search needs
-
-loop-less : tie.Need-loop-less Inv-loop μ-loop
-loop-less c = search needs
 
 loop-again : tie.Need-loop-again Inv-loop μ-loop
 loop-again c =
@@ -127,22 +91,22 @@ rows-spec =
     (tie.spec
     Inv-loop
     μ-loop
-    cycle-month-requires
+    (λ c κs. search needs)
     loop-holds
-    mul-line
-    shared-slice-copy-out-line
+    (λ c. search needs)
+    (λ c. search needs)
     vmst-requires
-    array-copy-out-vmpa
+    (λ c. search needs)
     vmpa-requires
-    mul-t14
-    shared-slice-copy-out-t19
-    array-copy-out-t23
-    mul-t24
-    shared-slice-copy-out-t26
-    mul-row
+    (λ c. search needs)
+    (λ c. search needs)
+    (λ c. search needs)
+    (λ c. search needs)
+    (λ c. search needs)
+    (λ c. search needs)
     slice-set-from-row
-    add-i
-    loop-less
+    (λ c. search needs)
+    (λ c. search needs)
     loop-again
     same-length
     returns)

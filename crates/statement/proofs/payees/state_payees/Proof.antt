@@ -41,9 +41,6 @@ work-out-requires c κs =
       s .pre .1,
     )
 
-same-length : tie.Need-same-length
-same-length c = search needs
-
 returns : tie.Need-returns
 returns c =
     let d = c .before .before .before .before in
@@ -62,5 +59,5 @@ state-payees-spec =
     array-borrow-prefix-vc
     slice-aggregate-work-out-3
     work-out-requires
-    same-length
+    (λ c. search needs)
     returns)

@@ -14,12 +14,6 @@ use Rattle.statement.specs.Statement.{onsRow}
 use Rattle.statement.proofs.payees.work_out.Statement.{statement}
 use Rattle.statement.proofs.payees.work_out.Tie as tie
 
-agent-credits-requires : tie.Need-agent-credits-requires
-agent-credits-requires c κs = search needs
-
-slice-relend-prefix-rows : tie.Need-slice-relend-prefix-rows
-slice-relend-prefix-rows c = search needs
-
 slice-aggregate-rows : tie.Need-slice-aggregate-rows
 slice-aggregate-rows c = sym (length-take-le _ _ (omega (arith, c .before .before .before .before .before .before .before .before .before .before .pre .4)))
 
@@ -33,24 +27,6 @@ rows-requires c κs =
       d .agent-credits .kept .1 .1 .1 .1 .1 .1 .0 ∙ s .pre .3,
       length-take-le _ _ (omega (arith, s .pre .4)),
     )
-
-mul-row : tie.Need-mul-row
-mul-row c = search needs
-
-slice-set-from-row : tie.Need-slice-set-from-row
-slice-set-from-row c = search needs
-
-same-length : tie.Need-same-length
-same-length c = search needs
-
-same-length-2 : tie.Need-same-length-2
-same-length-2 c = search needs
-
-same-length-3 : tie.Need-same-length-3
-same-length-3 c = search needs
-
-same-length-4 : tie.Need-same-length-4
-same-length-4 c = search needs
 
 returns : tie.Need-returns
 returns c =
@@ -72,14 +48,14 @@ pub work-out-spec : {M : Type 1} → statement M
 work-out-spec =
     tie.close
     (tie.spec
-    agent-credits-requires
-    slice-relend-prefix-rows
+    (λ c κs. search needs)
+    (λ c. search needs)
     slice-aggregate-rows
     rows-requires
-    mul-row
-    slice-set-from-row
-    same-length
-    same-length-2
-    same-length-3
-    same-length-4
+    (λ c. search needs)
+    (λ c. search needs)
+    (λ c. search needs)
+    (λ c. search needs)
+    (λ c. search needs)
+    (λ c. search needs)
     returns)

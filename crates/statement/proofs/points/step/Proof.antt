@@ -29,16 +29,10 @@ module _ (users : List User) (i : ℕ) (p : Point) (c : Charged) where
   unfolding chargedAt
   kept e = rw e
 
-bad-point-requires : tie.Need-bad-point-requires
-bad-point-requires c κs = search needs
-
 returns : tie.Need-returns
 returns c =
     let a = c .before .before .args in
     left-out (map userOf (a .users .now)) (a .i) (a .p) (a .c) (sym (c .before .bad-point .ensures) ∙ c .if1 .taken)
-
-slice-aggregate-put : tie.Need-slice-aggregate-put
-slice-aggregate-put c = search needs
 
 good : (c : tie.Else1) → badPoint (c .before .before .args .p) ≡ false
 good c = sym (c .before .bad-point .ensures) ∙ c .if1 .left
@@ -46,20 +40,8 @@ good c = sym (c .before .bad-point .ensures) ∙ c .if1 .left
 use-charge-requires : tie.Need-use-charge-requires
 use-charge-requires c κs = good (c .before .before .before)
 
-put-requires : tie.Need-put-requires
-put-requires c κs = search needs
-
-kind-of-requires : tie.Need-kind-of-requires
-kind-of-requires c κs = search needs
-
-slice-aggregate-put-2 : tie.Need-slice-aggregate-put-2
-slice-aggregate-put-2 c = search needs
-
 overrun-requires : tie.Need-overrun-requires
 overrun-requires c κs = good (c .before .before .before .before .before .before .before .before .before)
-
-put-requires-2 : tie.Need-put-requires-2
-put-requires-2 c κs = search needs
 
 uses-are : (c : tie.After-put) → let a = c .before .before .before .before .before .before .before .args in c .put .last .0 ≡ set (a .c .uses) (a .i) (useCharge (a .p))
 uses-are c =
@@ -93,13 +75,13 @@ pub step-spec : {M : Type 1} → statement M
 step-spec =
     tie.close
     (tie.spec
-    bad-point-requires
+    (λ c κs. search needs)
     returns
-    slice-aggregate-put
+    (λ c. search needs)
     use-charge-requires
-    put-requires
-    kind-of-requires
-    slice-aggregate-put-2
+    (λ c κs. search needs)
+    (λ c κs. search needs)
+    (λ c. search needs)
     overrun-requires
-    put-requires-2
+    (λ c κs. search needs)
     returns-2)

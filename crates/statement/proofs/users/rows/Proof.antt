@@ -87,9 +87,6 @@ mul-t24 c = omega arith
 shared-slice-copy-out-t23 : tie.Need-shared-slice-copy-out-t23 Inv-loop μ-loop
 shared-slice-copy-out-t23 c = omega arith
 
-array-copy-out-t20 : tie.Need-array-copy-out-t20 Inv-loop μ-loop
-array-copy-out-t20 c = search needs
-
 mul-t21 : tie.Need-mul-t21 Inv-loop μ-loop
 mul-t21 c = omega arith
 
@@ -204,7 +201,7 @@ rows-spec =
     shared-slice-copy-out-t26
     mul-t24
     shared-slice-copy-out-t23
-    array-copy-out-t20
+    (λ c. search needs)
     mul-t21
     shared-slice-copy-out-t32
     mul-t33

@@ -77,9 +77,6 @@ work-out-requires c κs =
     let s = c .before .before .before .before .before .before .before .before .before .before .before in
     rw (toZ-ofZ (s .fits .pv)) ((_, owed (s .pre .0 .1)), length-take-le _ _ (reach s), take-same _ 512 (pos 0) (reach s), s .pre .1)
 
-same-length : tie.Need-same-length
-same-length c = search needs
-
 returns : tie.Need-returns
 returns c l o =
     let d = c .before .before .before in
@@ -103,5 +100,5 @@ state-users-spec =
     array-borrow-prefix-cpv
     slice-aggregate-work-out-6
     work-out-requires
-    same-length
+    (λ c. search needs)
     returns)

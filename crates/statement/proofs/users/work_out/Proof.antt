@@ -33,15 +33,6 @@ rows-requires c κs =
     let o = s .pre .0 .1 in
     rw (charged v o, compensated d o) (columns o (s .pre .3))
 
-same-length : tie.Need-same-length
-same-length c = search needs
-
-same-length-2 : tie.Need-same-length-2
-same-length-2 c = search needs
-
-same-length-3 : tie.Need-same-length-3
-same-length-3 c = search needs
-
 returns : tie.Need-returns
 returns c l o =
     let d = c .before .before .before .before .before .before in
@@ -55,7 +46,7 @@ work-out-spec =
     charge-requires
     compensate-requires
     rows-requires
-    same-length
-    same-length-2
-    same-length-3
+    (λ c. search needs)
+    (λ c. search needs)
+    (λ c. search needs)
     returns)

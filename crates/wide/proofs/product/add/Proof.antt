@@ -6,9 +6,6 @@ use Rattle.wide.proofs.Laws.{words-is}
 use Rattle.wide.proofs.product.add.Statement.{statement}
 use Rattle.wide.proofs.product.add.Tie as tie
 
-wrapping-add-u64-requires : tie.Need-wrapping-add-u64-requires
-wrapping-add-u64-requires c κs = search needs
-
 returns : tie.Need-returns
 returns c =
     let a = c .before .before .args in
@@ -20,4 +17,4 @@ returns-2 c =
     words-is _ _ (a .x + a .y) (omega arith) (omega arith)
 
 pub add-spec : {M : Type 1} → statement M
-add-spec = tie.close (tie.spec wrapping-add-u64-requires returns returns-2)
+add-spec = tie.close (tie.spec (λ c κs. search needs) returns returns-2)

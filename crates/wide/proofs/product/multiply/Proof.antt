@@ -94,32 +94,14 @@ module _ (a b : ℕ) (a-fits : a < 2 ^ 64) (b-fits : b < 2 ^ 64) where
       ∙ expand (2 ^ 32) (a / 2 ^ 32) (a % 2 ^ 32) (b / 2 ^ 32) (b % 2 ^ 32)
       ∙ ap₂ _*_ (div-add-mod' a (2 ^ 32)) (div-add-mod' b (2 ^ 32))
 
-low-half-requires : tie.Need-low-half-requires
-low-half-requires c κs = search needs
-
-high-half-requires : tie.Need-high-half-requires
-high-half-requires c κs = search needs
-
-low-half-requires-2 : tie.Need-low-half-requires-2
-low-half-requires-2 c κs = search needs
-
-high-half-requires-2 : tie.Need-high-half-requires-2
-high-half-requires-2 c κs = search needs
-
 mul-add : tie.Need-mul-add
 mul-add c = omega (arith, half-product (c .before .before .before .low-half .result) (c .high-half2 .result) (omega arith) (omega arith))
 
 mul-add-2 : tie.Need-mul-add-2
 mul-add-2 c = omega (arith, half-product (c .before .before .high-half .result) (c .before .low-half2 .result) (omega arith) (omega arith))
 
-add-requires : tie.Need-add-requires
-add-requires c κs = search needs
-
 mul-add-3 : tie.Need-mul-add-3
 mul-add-3 c = omega (arith, half-product (c .before .before .before .before .low-half .result) (c .before .before .low-half2 .result) (omega arith) (omega arith))
-
-add-requires-2 : tie.Need-add-requires-2
-add-requires-2 c κs = search needs
 
 mul-t9 : tie.Need-mul-t9
 mul-t9 c = omega (arith, half-product (c .before .before .before .before .before .high-half .result) (c .before .before .before .high-half2 .result) (omega arith) (omega arith))
@@ -131,9 +113,6 @@ add-t11 c =
     let s = h .before .before .before .before in
     simp (n .add .ensures, h .high-half2 .ensures, h .before .low-half2 .ensures, h .before .before .high-half .ensures, h .before .before .before .low-half .ensures)
     (record { fits = two-of-four _ _ _ _ _ (high-word (s .args .a) (s .args .b) (s .fits .a .fits) (s .fits .b .fits)) })
-
-high-half-requires-3 : tie.Need-high-half-requires-3
-high-half-requires-3 c κs = search needs
 
 add-t13 : tie.Need-add-t13
 add-t13 c =
@@ -167,18 +146,18 @@ pub multiply-spec : {M : Type 1} → statement M
 multiply-spec =
     tie.close
     (tie.spec
-    low-half-requires
-    high-half-requires
-    low-half-requires-2
-    high-half-requires-2
+    (λ c κs. search needs)
+    (λ c κs. search needs)
+    (λ c κs. search needs)
+    (λ c κs. search needs)
     mul-add
     mul-add-2
-    add-requires
+    (λ c κs. search needs)
     mul-add-3
-    add-requires-2
+    (λ c κs. search needs)
     mul-t9
     add-t11
-    high-half-requires-3
+    (λ c κs. search needs)
     add-t13
     add-t14
     returns)

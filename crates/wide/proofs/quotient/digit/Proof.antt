@@ -82,12 +82,6 @@ step c =
       d-lt = c .pre .2;
     }
 
-div-q : tie.Need-div-q
-div-q c = search needs
-
-rem-m : tie.Need-rem-m
-rem-m c = search needs
-
 mul-m : tie.Need-mul-m
 mul-m c = omega (arith, left-lt (step c), c .fits .v)
 
@@ -106,9 +100,6 @@ returns c =
 sub-t9 : tie.Need-sub-t9
 sub-t9 c = not-none _ (bitAnd (c .before .args .v) 536870911) _ (c .if1 .left)
 
-sub-t8 : tie.Need-sub-t8
-sub-t8 c = search needs
-
 sub-t12 : tie.Need-sub-t12
 sub-t12 c = passes _ _ _ (p-lt (step (c .before))) (c .before .pre .0)
 
@@ -126,4 +117,4 @@ returns-2 c =
     (below (a .v) p m l k)
 
 pub digit-spec : {M : Type 1} → statement M
-digit-spec = tie.close (tie.spec div-q rem-m mul-m add-m mul-p returns sub-t9 sub-t8 sub-t12 returns-2)
+digit-spec = tie.close (tie.spec (λ c. search needs) (λ c. search needs) mul-m add-m mul-p returns sub-t9 (λ c. search needs) sub-t12 returns-2)

@@ -109,12 +109,6 @@ shl-high c = shift-lt (c .before)
 sub-high : tie.Need-sub-high
 sub-high c = omega (arith, shift-lt (c .before .before))
 
-cast-high-2 : tie.Need-cast-high-2
-cast-high-2 c = search needs
-
-shr-high : tie.Need-shr-high
-shr-high c = search needs
-
 add-high : tie.Need-add-high
 add-high c = let w = words (c .before .before) in record { fits = lt-trans (w .x-lt) (w .v-lt) }
 
@@ -159,8 +153,8 @@ divide-spec =
     cast-high
     shl-high
     sub-high
-    cast-high-2
-    shr-high
+    (λ c. search needs)
+    (λ c. search needs)
     add-high
     cast-normal
     shl-normal

@@ -60,9 +60,6 @@ returns c =
     let a = c .before .before .args in
     c .two-digits .ensures ∙ ap (λ (n : ℕ). divided n (a .v)) (whole (a .high) (a .low))
 
-two-digits-requires-2 : tie.Need-two-digits-requires-2
-two-digits-requires-2 c κs = search needs
-
 first : (c : tie.After-two-digits2) → let a = c .before .before .args in Divides (a .high * 2 ^ 58 + a .low / 64) (a .v) (c .two-digits2 .result)
 first c = divides (positive (c .before .before .args .v) (c .before .before .pre .0)) (c .two-digits2 .ensures)
 
@@ -116,7 +113,7 @@ normal-spec =
     add-two-digits
     two-digits-requires
     returns
-    two-digits-requires-2
+    (λ c κs. search needs)
     mul-two-digits-2
     add-two-digits-2
     two-digits-requires-3

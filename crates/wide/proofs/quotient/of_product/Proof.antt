@@ -37,15 +37,6 @@ positive c = pos-of-ne-zero (c .if1 .left)
 returns : tie.Need-returns
 returns c = sym (ap (λ (n : ℕ). ratio (c .before .args .a) (c .before .args .b) n) (c .if1 .taken) ∙ ratio-by-zero (c .before .args .a) (c .before .args .b))
 
-multiply-requires : tie.Need-multiply-requires
-multiply-requires c κs = search needs
-
-div-t6 : tie.Need-div-t6
-div-t6 c = search needs
-
-rem-t7 : tie.Need-rem-t7
-rem-t7 c = search needs
-
 returns-2 : tie.Need-returns-2
 returns-2 c =
     let t = c .before .before in
@@ -56,9 +47,6 @@ returns-2 c =
     let f : Fits w64 low = search needs in
     let k : a .a * a .b / a .c < 2 ^ 64 = subst (λ (n : ℕ). n / a .c < 2 ^ 64) e (lt-of-le-of-lt (div-le-self low (a .c)) (f .fits)) in
     sym (ratio-exact (a .a) (a .b) (a .c) (positive (m .before)) k ∙ ap (λ (n : ℕ). Exact (divided n (a .c))) (sym e))
-
-divide-requires : tie.Need-divide-requires
-divide-requires c κs = search needs
 
 returns-3 : tie.Need-returns-3
 returns-3 c =
@@ -78,4 +66,4 @@ returns-4 c =
 
 pub of-product-spec : {M : Type 1} → statement M
 of-product-spec =
-    tie.close (tie.spec returns multiply-requires div-t6 rem-t7 returns-2 divide-requires returns-3 returns-4)
+    tie.close (tie.spec returns (λ c κs. search needs) (λ c. search needs) (λ c. search needs) returns-2 (λ c κs. search needs) returns-3 returns-4)

@@ -40,9 +40,6 @@ second-lt c =
     quot-lt (2 ^ 29) (positive (a .v) (c .before .before .pre .0)) (c .digit2 .ensures)
     (dividend-lt (c .before .digit .result .rem) (bitAnd (a .n) 536870911) (a .v) (first (c .before) .small) (low-lt (a .n)))
 
-digit-requires : tie.Need-digit-requires
-digit-requires c κs = search needs
-
 digit-requires-2 : tie.Need-digit-requires-2
 digit-requires-2 c κs = (c .before .pre .0, first c .small, low-lt (c .before .args .n))
 
@@ -61,4 +58,4 @@ returns c =
     (second d .small)
 
 pub two-digits-spec : {M : Type 1} → statement M
-two-digits-spec = tie.close (tie.spec digit-requires digit-requires-2 mul-t6 add-t7 returns)
+two-digits-spec = tie.close (tie.spec (λ c κs. search needs) digit-requires-2 mul-t6 add-t7 returns)
