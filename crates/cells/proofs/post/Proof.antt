@@ -26,12 +26,6 @@ words c = post-fits (c .before .before .before .pre) (c .before .loop .inv .1) (
 loop-holds : tie.Need-loop-holds Inv-loop μ-loop
 loop-holds c = (omega arith, filled-none (pos 0) 0 _ _)
 
-mul-cent : tie.Need-mul-cent Inv-loop μ-loop
-mul-cent c = omega (arith, c .before .before .before .good)
-
-shared-slice-read-cent : tie.Need-shared-slice-read-cent Inv-loop μ-loop
-shared-slice-read-cent c = omega (arith, c .before .before .before .before .pre .long)
-
 cent-requires : tie.Need-cent-requires Inv-loop μ-loop
 cent-requires c κs = c .before .before .before .before .pre .marked (c .before .before .loop .i)
 
@@ -56,9 +50,6 @@ slice-set-from-cells c = omega (arith, c .before .before .before .before .loop .
 add-i : tie.Need-add-i Inv-loop μ-loop
 add-i c = omega (arith, c .before .before .before .loop-test .taken, c .before .before .before .before .before .before .good)
 
-loop-less : tie.Need-loop-less Inv-loop μ-loop
-loop-less c = omega (arith, c .before .before .before .loop-test .taken)
-
 loop-again : tie.Need-loop-again Inv-loop μ-loop
 loop-again c =
     let l = words (c .before .before .before) in
@@ -69,9 +60,6 @@ loop-again c =
     let z : getD (p .cells) (p .i) (pos 0) +ℤ c .before .cent .result ≡ getD (s .cells .now) (p .i) (pos 0) +ℤ pos (getD (s .marks .now) (p .i) 0 - 1) =
     ap₂ _+ℤ_ (p .inv .1 .after (p .i) (omega arith)) (c .before .cent .ensures) in
     simp (toZ-ofZ, l .1, g, f) (omega (arith, c .before .before .before .loop-test .taken), rw zero-add at (filled-more (p .inv .1) (omega (arith, p .inv .1 .long, c .before .before .before .loop-test .taken)) (getD (p .cells) (p .i) (pos 0) +ℤ c .before .cent .result) z))
-
-same-length : tie.Need-same-length Inv-loop μ-loop
-same-length c = c .before .loop .inv .1 .long
 
 returns : tie.Need-returns Inv-loop μ-loop
 returns c =
@@ -85,8 +73,8 @@ post-spec =
     Inv-loop
     μ-loop
     loop-holds
-    mul-cent
-    shared-slice-read-cent
+    (λ c. omega (arith, c .before .before .before .good))
+    (λ c. omega (arith, c .before .before .before .before .pre .long))
     cent-requires
     mul-cells
     slice-copy-out-cells
@@ -94,7 +82,7 @@ post-spec =
     mul-t13
     slice-set-from-cells
     add-i
-    loop-less
+    (λ c. omega (arith, c .before .before .before .loop-test .taken))
     loop-again
-    same-length
+    (λ c. c .before .loop .inv .1 .long)
     returns)

@@ -112,12 +112,6 @@ cast-w c = simp (toZ-ofZ, c .fits .total) (cast (c .args .total) (c .pre))
 loop-holds : tie.Need-loop-holds Inv-loop μ-loop
 loop-holds c = start (asks c)
 
-mul-through : tie.Need-mul-through Inv-loop μ-loop
-mul-through c = omega arith
-
-shared-slice-copy-out-through : tie.Need-shared-slice-copy-out-through Inv-loop μ-loop
-shared-slice-copy-out-through c = omega arith
-
 weight-fits : (c : tie.After-through Inv-loop μ-loop) → SFits w64 (getD (c .before .before .before .args .weights .now) (c .before .before .loop .i) (pos 0))
 weight-fits c = search needs
 
@@ -151,17 +145,8 @@ part-fits c = value-fits (asks (s (c .before))) (c .before .before .before .loop
 sub-parts : tie.Need-sub-parts Inv-loop μ-loop
 sub-parts c = rw (toZ-ofZ (result-fits c)) (part-fits c)
 
-mul-t12 : tie.Need-mul-t12 Inv-loop μ-loop
-mul-t12 c = omega arith
-
 slice-set-from-parts : tie.Need-slice-set-from-parts Inv-loop μ-loop
 slice-set-from-parts c = omega (arith, written (asks (s (c .before))) (c .before .before .before .loop .inv), asks (s (c .before)) .long)
-
-add-i : tie.Need-add-i Inv-loop μ-loop
-add-i c = omega arith
-
-loop-less : tie.Need-loop-less Inv-loop μ-loop
-loop-less c = omega arith
 
 loop-again : tie.Need-loop-again Inv-loop μ-loop
 loop-again c =
@@ -185,16 +170,16 @@ fill-spec =
     μ-loop
     cast-w
     loop-holds
-    mul-through
-    shared-slice-copy-out-through
+    (λ c. omega arith)
+    (λ c. omega arith)
     add-through
     cast-floor-of
     floor-of-requires
     sub-parts
-    mul-t12
+    (λ c. omega arith)
     slice-set-from-parts
-    add-i
-    loop-less
+    (λ c. omega arith)
+    (λ c. omega arith)
     loop-again
     same-length
     returns)

@@ -78,9 +78,6 @@ not-below c = omega (za, back# (c .before .before .before .before .fits .p))
 scaled-requires : tie.Need-scaled-requires
 scaled-requires c κs = (c .before .pre .1, c .before .pre .2)
 
-raised-requires : tie.Need-raised-requires
-raised-requires c κs = quot-small c
-
 cast-up : tie.Need-cast-up
 cast-up c = omega (za, up-small c)
 
@@ -117,7 +114,7 @@ floor-of-spec =
     (tie.spec
     (λ c κs. search needs)
     scaled-requires
-    raised-requires
+    (λ c κs. quot-small c)
     cast-up
     sub-result
     returns

@@ -36,21 +36,6 @@ loop-again c =
     let d = c .before .before .before .before .before .before .before .before .deal-row in
     (omega (arith, l .loop-test .taken), kept-then k (rw (k .tall, k .wide) at (d .ensures)), d .kept .1 .1 .1 .0 ∙ l .before .loop .inv .2)
 
-same-length : tie.Need-same-length Inv-loop μ-loop
-same-length c = c .before .loop .inv .1 .cells
-
-same-length-2 : tie.Need-same-length-2 Inv-loop μ-loop
-same-length-2 c = c .before .loop .inv .1 .tall
-
-same-length-3 : tie.Need-same-length-3 Inv-loop μ-loop
-same-length-3 c = c .before .loop .inv .1 .wide
-
-same-length-4 : tie.Need-same-length-4 Inv-loop μ-loop
-same-length-4 c = c .before .loop .inv .2
-
-returns : tie.Need-returns Inv-loop μ-loop
-returns c = c .before .loop .inv .1
-
 pub deal-spec : {M : Type 1} → statement M
 deal-spec =
     tie.close
@@ -62,8 +47,8 @@ deal-spec =
     add-i
     loop-less
     loop-again
-    same-length
-    same-length-2
-    same-length-3
-    same-length-4
-    returns)
+    (λ c. c .before .loop .inv .1 .cells)
+    (λ c. c .before .loop .inv .1 .tall)
+    (λ c. c .before .loop .inv .1 .wide)
+    (λ c. c .before .loop .inv .2)
+    (λ c. c .before .loop .inv .1))

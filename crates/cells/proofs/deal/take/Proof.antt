@@ -34,12 +34,6 @@ here c =
 loop-holds : tie.Need-loop-holds Inv-loop μ-loop
 loop-holds c = (omega arith, kept-none _ _ _)
 
-add-j : tie.Need-add-j Inv-loop μ-loop
-add-j c = omega arith
-
-mul-if1 : tie.Need-mul-if1 Inv-loop μ-loop
-mul-if1 c = omega arith
-
 slice-read-if1 : tie.Need-slice-read-if1 Inv-loop μ-loop
 slice-read-if1 c = here (c .before) .column
 
@@ -91,14 +85,8 @@ mul-lacks c = omega (arith, here (c .before .before .before .before .before .bef
 slice-read-lacks : tie.Need-slice-read-lacks Inv-loop μ-loop
 slice-read-lacks c = here (c .before .before .before .before .before .before .before .before) .row
 
-sub-lacks : tie.Need-sub-lacks Inv-loop μ-loop
-sub-lacks c = c .before .before .if3 .taken
-
 slice-write-lacks : tie.Need-slice-write-lacks Inv-loop μ-loop
 slice-write-lacks c = here (c .before .before .before .before .before .before .before .before) .row
-
-loop-less : tie.Need-loop-less Inv-loop μ-loop
-loop-less c = omega arith
 
 loop-again : tie.Need-loop-again Inv-loop μ-loop
 loop-again c =
@@ -110,35 +98,14 @@ loop-again c =
           (kept-mark _ _ _ (s .args .i) (l .before .loop .j) (s .pre .1) (l .loop-test .taken) (h .cell) (h .row) (h .column) (c .before .before .before .before .if2 .taken) (c .before .before .if3 .taken) (omega (arith, c .before .before .before .before .before .before .if1 .taken, s .pre .2))),
     )
 
-loop-less-2 : tie.Need-loop-less-2 Inv-loop μ-loop
-loop-less-2 c = omega arith
-
 loop-again-2 : tie.Need-loop-again-2 Inv-loop μ-loop
 loop-again-2 c = (omega (arith, c .before .before .before .before .before .before .loop-test .taken), c .before .before .before .before .before .before .before .loop .inv .1)
-
-loop-less-3 : tie.Need-loop-less-3 Inv-loop μ-loop
-loop-less-3 c = omega arith
 
 loop-again-3 : tie.Need-loop-again-3 Inv-loop μ-loop
 loop-again-3 c = (omega (arith, c .before .before .before .before .loop-test .taken), c .before .before .before .before .before .loop .inv .1)
 
-loop-less-4 : tie.Need-loop-less-4 Inv-loop μ-loop
-loop-less-4 c = omega arith
-
 loop-again-4 : tie.Need-loop-again-4 Inv-loop μ-loop
 loop-again-4 c = (omega (arith, c .before .before .loop-test .taken), c .before .before .before .loop .inv .1)
-
-same-length : tie.Need-same-length Inv-loop μ-loop
-same-length c = c .before .loop .inv .1 .cells
-
-same-length-2 : tie.Need-same-length-2 Inv-loop μ-loop
-same-length-2 c = c .before .loop .inv .1 .tall
-
-same-length-3 : tie.Need-same-length-3 Inv-loop μ-loop
-same-length-3 c = c .before .loop .inv .1 .wide
-
-returns : tie.Need-returns Inv-loop μ-loop
-returns c = c .before .loop .inv .1
 
 pub take-spec : {M : Type 1} → statement M
 take-spec =
@@ -147,8 +114,8 @@ take-spec =
     Inv-loop
     μ-loop
     loop-holds
-    add-j
-    mul-if1
+    (λ c. omega arith)
+    (λ c. omega arith)
     slice-read-if1
     mul-if2
     add-if2
@@ -166,17 +133,17 @@ take-spec =
     slice-write-wants
     mul-lacks
     slice-read-lacks
-    sub-lacks
+    (λ c. c .before .before .if3 .taken)
     slice-write-lacks
-    loop-less
+    (λ c. omega arith)
     loop-again
-    loop-less-2
+    (λ c. omega arith)
     loop-again-2
-    loop-less-3
+    (λ c. omega arith)
     loop-again-3
-    loop-less-4
+    (λ c. omega arith)
     loop-again-4
-    same-length
-    same-length-2
-    same-length-3
-    returns)
+    (λ c. c .before .loop .inv .1 .cells)
+    (λ c. c .before .loop .inv .1 .tall)
+    (λ c. c .before .loop .inv .1 .wide)
+    (λ c. c .before .loop .inv .1))

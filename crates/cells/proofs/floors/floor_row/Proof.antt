@@ -251,14 +251,14 @@ floor-row-spec =
     size-requires
     rate-of-requires
     loop-holds
-    mul-x
-    shared-slice-read-x
+    (λ c. omega arith)
+    (λ c. omega arith)
     at-rate-requires
     signed-requires
     add-q
     mul-q
     slice-set-from-q
-    broken-requires
+    (λ c κs. search needs)
     add-marks
     mul-marks
     slice-write-marks
@@ -267,7 +267,7 @@ floor-row-spec =
     add-s
     carry-requires
     mul-lefts
-    sub-lefts
+    (λ c. c .carry .ensures .low)
     mul-lefts-2
     slice-write-lefts
     mul-wants
@@ -278,13 +278,13 @@ floor-row-spec =
     add-t
     carry-requires-2
     mul-left
-    sub-left
+    (λ c. c .carry2 .ensures .low)
     add-lacks
     add-j
     loop-less
     loop-again
-    same-length
-    same-length-2
-    same-length-3
-    same-length-4
+    (λ c. c .before .loop .inv .row .cell .long)
+    (λ c. c .before .loop .inv .row .mark .long)
+    (λ c. c .before .loop .inv .row .sum .wants-long)
+    (λ c. c .before .loop .inv .row .sum .lefts-long)
     returns)

@@ -30,9 +30,6 @@ loop-holds c = let s = c .before .before .before .before .before in rowed-none (
 mul-floor-row : tie.Need-mul-floor-row Inv-loop μ-loop
 mul-floor-row c = omega (arith, c .before .before .before .before .before .before .before .good)
 
-shared-slice-copy-out-floor-row : tie.Need-shared-slice-copy-out-floor-row Inv-loop μ-loop
-shared-slice-copy-out-floor-row c = c .loop-test .taken
-
 mul-floor-row-2 : tie.Need-mul-floor-row-2 Inv-loop μ-loop
 mul-floor-row-2 c =
     let s = c .before .before .before .before .before .before .before .before .before .before .before .before in
@@ -86,7 +83,7 @@ floors-spec =
     μ-loop
     loop-holds
     mul-floor-row
-    shared-slice-copy-out-floor-row
+    (λ c. c .loop-test .taken)
     mul-floor-row-2
     floor-row-requires
     mul-lacks

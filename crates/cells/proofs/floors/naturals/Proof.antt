@@ -36,17 +36,8 @@ size c =
 loop-holds : tie.Need-loop-holds Inv-loop μ-loop
 loop-holds c = naturals-start _ _
 
-mul-x : tie.Need-mul-x Inv-loop μ-loop
-mul-x c = omega arith
-
-shared-slice-copy-out-x : tie.Need-shared-slice-copy-out-x Inv-loop μ-loop
-shared-slice-copy-out-x c = c .loop-test .taken
-
 cast-x : tie.Need-cast-x Inv-loop μ-loop
 cast-x c = let d = debit (c .before) in simp (toZ-ofZ, d .1) (omega (za, d .0))
-
-mul-debits : tie.Need-mul-debits Inv-loop μ-loop
-mul-debits c = omega arith
 
 slice-write-debits : tie.Need-slice-write-debits Inv-loop μ-loop
 slice-write-debits c = omega (arith, c .before .before .loop .inv .wrote .long, c .before .before .before .pre .long)
@@ -54,17 +45,8 @@ slice-write-debits c = omega (arith, c .before .before .loop .inv .wrote .long, 
 add-sum : tie.Need-add-sum Inv-loop μ-loop
 add-sum c = omega (arith, size (c .before), sum-small (c .before .before .before .pre) (c .before .before .loop .inv) (c .before .loop-test .taken))
 
-add-j : tie.Need-add-j Inv-loop μ-loop
-add-j c = omega arith
-
-loop-less : tie.Need-loop-less Inv-loop μ-loop
-loop-less c = omega arith
-
 loop-again : tie.Need-loop-again Inv-loop μ-loop
 loop-again c = naturals-more (c .before .before .before .pre) (c .before .before .loop .inv) (c .before .loop-test .taken) _ (size (c .before))
-
-same-length : tie.Need-same-length Inv-loop μ-loop
-same-length c = c .before .loop .inv .wrote .long
 
 returns : tie.Need-returns Inv-loop μ-loop
 returns c =
@@ -78,14 +60,14 @@ naturals-spec =
     Inv-loop
     μ-loop
     loop-holds
-    mul-x
-    shared-slice-copy-out-x
+    (λ c. omega arith)
+    (λ c. c .loop-test .taken)
     cast-x
-    mul-debits
+    (λ c. omega arith)
     slice-write-debits
     add-sum
-    add-j
-    loop-less
+    (λ c. omega arith)
+    (λ c. omega arith)
     loop-again
-    same-length
+    (λ c. c .before .loop .inv .wrote .long)
     returns)

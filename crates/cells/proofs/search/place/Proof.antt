@@ -17,9 +17,6 @@ abbrev μ-loop : tie.MeasureT-loop
 loop-holds : tie.Need-loop-holds Inv-loop μ-loop
 loop-holds c = let s = c .before .before .before .before .before .args in going-start (s .marks .now) (s .lacks .now) (s .wants .now) (s .rows .now) (s .columns .now)
 
-mul-if1 : tie.Need-mul-if1 Inv-loop μ-loop
-mul-if1 c = omega arith
-
 slice-read-if1 : tie.Need-slice-read-if1 Inv-loop μ-loop
 slice-read-if1 c = omega (arith, c .before .before .loop .inv .kept .tall, c .before .before .before .before .before .before .before .before .pre .tall)
 
@@ -62,29 +59,8 @@ loop-again c =
     let o = c .before .before .before .before .before .before .before .before .before .before .before .before .before .before .before .before .reopen2 in
     going-on (l .before .loop .inv) (p .feasible) (p .small) (l .loop-test .taken) (omega (arith, c .before .before .before .before .before .before .before .before .before .before .before .before .before .before .before .before .before .before .before .before .before .before .before .before .loop-test .taken, c .before .before .before .before .before .before .before .before .before .before .before .before .before .before .before .before .before .before .before .before .before .before .before .before .before .loop .inv .kept .tall, c .before .before .before .before .before .before .before .before .before .before .before .before .before .before .before .before .before .before .before .before .before .before .before .before .before .before .before .before .before .before .before .pre .tall)) (c .before .before .before .before .before .before .before .before .before .before .before .before .before .before .before .before .before .before .before .before .before .before .if1 .taken) (r .kept .0) (o .kept .0) (r .ensures) (o .ensures) (v .result) (v .ensures) (v .kept .0) (v .kept .1 .0) (v .kept .1 .1 .0) (v .kept .1 .1 .1 .0)
 
-add-i : tie.Need-add-i Inv-loop μ-loop
-add-i c = omega arith
-
-loop-less-2 : tie.Need-loop-less-2 Inv-loop μ-loop
-loop-less-2 c = omega arith
-
 loop-again-2 : tie.Need-loop-again-2 Inv-loop μ-loop
 loop-again-2 c = going-past (c .before .before .before .loop .inv) (c .before .before .loop-test .taken) (omega arith)
-
-same-length : tie.Need-same-length Inv-loop μ-loop
-same-length c = c .before .loop .inv .kept .cells
-
-same-length-2 : tie.Need-same-length-2 Inv-loop μ-loop
-same-length-2 c = c .before .loop .inv .kept .tall
-
-same-length-3 : tie.Need-same-length-3 Inv-loop μ-loop
-same-length-3 c = c .before .loop .inv .kept .wide
-
-same-length-4 : tie.Need-same-length-4 Inv-loop μ-loop
-same-length-4 c = c .before .loop .inv .tall
-
-same-length-5 : tie.Need-same-length-5 Inv-loop μ-loop
-same-length-5 c = c .before .loop .inv .long
 
 returns : tie.Need-returns Inv-loop μ-loop
 returns c = going-end (c .before .loop .inv) (c .before .before .before .before .before .before .before .pre .feasible) (c .loop-test .left)
@@ -96,7 +72,7 @@ place-spec =
     Inv-loop
     μ-loop
     loop-holds
-    mul-if1
+    (λ c. omega arith)
     slice-read-if1
     (λ c κs. search needs)
     (λ c κs. search needs)
@@ -107,12 +83,12 @@ place-spec =
     slice-write-lacks
     loop-less
     loop-again
-    add-i
-    loop-less-2
+    (λ c. omega arith)
+    (λ c. omega arith)
     loop-again-2
-    same-length
-    same-length-2
-    same-length-3
-    same-length-4
-    same-length-5
+    (λ c. c .before .loop .inv .kept .cells)
+    (λ c. c .before .loop .inv .kept .tall)
+    (λ c. c .before .loop .inv .kept .wide)
+    (λ c. c .before .loop .inv .tall)
+    (λ c. c .before .loop .inv .long)
     returns)

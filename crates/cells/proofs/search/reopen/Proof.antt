@@ -16,25 +16,10 @@ abbrev μ-loop : tie.MeasureT-loop
 loop-holds : tie.Need-loop-holds Inv-loop μ-loop
 loop-holds c = (omega arith, refl, refl)
 
-mul-all : tie.Need-mul-all Inv-loop μ-loop
-mul-all c = omega arith
-
-slice-write-all : tie.Need-slice-write-all Inv-loop μ-loop
-slice-write-all c = omega arith
-
-add-i : tie.Need-add-i Inv-loop μ-loop
-add-i c = omega arith
-
-loop-less : tie.Need-loop-less Inv-loop μ-loop
-loop-less c = omega arith
-
 loop-again : tie.Need-loop-again Inv-loop μ-loop
 loop-again c =
     let l = c .before .loop in
     (omega arith, length-set (l .all) (l .i) 1 ∙ l .inv .1, rw (l .inv .2) (fill-more (l .i) 1 _ (omega arith)))
-
-same-length : tie.Need-same-length Inv-loop μ-loop
-same-length c = c .before .loop .inv .1
 
 returns : tie.Need-returns Inv-loop μ-loop
 returns c =
@@ -50,10 +35,10 @@ reopen-spec =
     Inv-loop
     μ-loop
     loop-holds
-    mul-all
-    slice-write-all
-    add-i
-    loop-less
+    (λ c. omega arith)
+    (λ c. omega arith)
+    (λ c. omega arith)
+    (λ c. omega arith)
     loop-again
-    same-length
+    (λ c. c .before .loop .inv .1)
     returns)

@@ -100,9 +100,6 @@ words c =
     moved _ _ _ _ _ (up (c .args .c) (positive c) (c .fits .c .fits)) (pow-pos (leadingZeros 64 (c .args .c)))
     (pow-pos (63 - leadingZeros 64 (c .args .c))) (c .pre) (low-fits c)
 
-cast-high : tie.Need-cast-high
-cast-high c = shift-fits c
-
 shl-high : tie.Need-shl-high
 shl-high c = shift-lt (c .before)
 
@@ -150,7 +147,7 @@ pub divide-spec : {M : Type 1} → statement M
 divide-spec =
     tie.close
     (tie.spec
-    cast-high
+    (λ c. shift-fits c)
     shl-high
     sub-high
     (λ c. search needs)

@@ -49,9 +49,6 @@ mul-two-digits c = search needs
 short : (c : tie.Then1) → let a = c .before .args in a .high * 64 + a .low / 2 ^ 58 < a .v
 short c = top-lt (c .before .args .high) (c .before .args .low) (c .before .args .v) (c .if1 .taken) (c .before .fits .low .fits)
 
-add-two-digits : tie.Need-add-two-digits
-add-two-digits c = omega (arith, short c, c .before .fits .v)
-
 two-digits-requires : tie.Need-two-digits-requires
 two-digits-requires c κs = (c .before .pre .0, short c, rest-lt (c .before .args .low))
 
@@ -109,8 +106,8 @@ pub normal-spec : {M : Type 1} → statement M
 normal-spec =
     tie.close
     (tie.spec
-    mul-two-digits
-    add-two-digits
+    (λ c. search needs)
+    (λ c. omega (arith, short c, c .before .fits .v))
     two-digits-requires
     returns
     (λ c κs. search needs)
