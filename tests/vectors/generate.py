@@ -1,8 +1,8 @@
 #!/usr/bin/env python3
-"""generate.py FOLDER [all]: writes the facts of crates/vectors/proofs from the vectors beside this file.
+"""generate.py FOLDER: writes a fact for each vector beside this file, as the modules of a crate's proofs/.
 
-A fact says that the definitions, evaluated by the checker, give a vector's expected answer. It has the number of the
-vector's line in its file, from 1. CHOSEN says which vectors the crate takes; with `all`, every one is written.
+A fact says that the definitions, evaluated by the checker, give a vector's expected answer (Asked.antt.txt says what is
+asked of them). It has the number of the vector's line in its file, from 1.
 """
 import json
 import os
@@ -10,30 +10,10 @@ import sys
 
 HERE = os.path.dirname(os.path.abspath(__file__))
 
-CHOSEN = {
-    # parts of small and of the largest amounts and totals, negative, whole and 0; every refusal
-    "shares": [1, 5, 9, 10, 13, 24, 27, 29, 31, 33, 58, 63, 87, 104, 108] + list(range(121, 130)),
-    "openings": list(range(1, 11)),
-    "closings":
-    # accepted: no points; half cents; negative credits, held credits, negative corrections; values at their limits
-    [1, 2, 4, 9, 12, 13, 14, 16, 20, 21, 22, 27, 31, 33, 37, 43, 52, 53, 55, 58, 76, 82, 83, 84, 85, 95, 96, 181]
-    # refused: 1, 2, 3, 4
-    + [86, 87, 98, 112] + [88, 89, 90, 91] + [30, 92, 115, 118] + [93, 94]
-    # 5, 6, 7
-    + [71, 121, 124, 152] + [106, 129, 158, 199] + [130, 135, 165, 166, 192]
-    # 8, 9, 10
-    + [136, 137] + [56, 140, 142] + [11, 35, 79, 148],
-    "readings":
-    # accepted, 11, 12
-    [23, 28, 30, 32, 55, 88] + [10, 39, 41, 53, 56, 84, 99, 100, 110, 116, 117, 118, 119] + [1, 20, 46, 103, 111],
-}
-
-
-def vectors(name, everything):
+def vectors(name):
     """(line number, vector) of a file, in order."""
     with open(os.path.join(HERE, name + ".jsonl"), encoding="latin-1") as f:
-        numbered = [(i, json.loads(line)) for i, line in enumerate(f, 1) if line.strip()]
-    return [(i, v) for i, v in numbered if everything or i in CHOSEN[name]]
+        return [(i, json.loads(line)) for i, line in enumerate(f, 1) if line.strip()]
 
 
 # ---- terms
@@ -119,12 +99,12 @@ def reading(v):
 # ---- modules
 
 
-def module(words, source, names, fact, chosen):
+def module(words, source, names, fact, numbered):
     """The facts on these vectors: `names` from elsewhere beside those of every module, `fact` their word and unfolding."""
     word, asked, statement = fact
     text = f"-- {words}: the answers of tests/vectors/{source}.jsonl. Written by tests/vectors/generate.py.\n"
     text += "".join(f"use {name}\n" for name in ["mathlib.Core.Path.{_≡_, refl}"] + names)
-    for number, v in chosen:
+    for number, v in numbered:
         left, right = statement(v)
         note = f"-- {v['name']}\n" if "name" in v else ""
         line = f"{word}-{number} : {left} ≡ {right}"
@@ -134,17 +114,17 @@ def module(words, source, names, fact, chosen):
     return text
 
 
-def modules(everything):
+def modules():
     lists, whole = "mathlib.Core.List.{[], _∷_}", "lib.IntN.{pos}"
     asked = "Rattle.vectors.specs.Asked.{%s}"
-    closings = vectors("closings", everything)
+    closings = vectors("closings")
     return {
         "Shares": module(
             "The share as C sees it", "shares", [whole, asked % "minus, share"], ("share", "share", share),
-            vectors("shares", everything)),
+            vectors("shares")),
         "Openings": module(
             "Openings", "openings", [whole, "Rattle.rules.specs.Verdict.{accepted, refused}", asked % "opening"],
-            ("opening", "opening", opening), vectors("openings", everything)),
+            ("opening", "opening", opening), vectors("openings")),
         "Closings": module(
             "Accepted months, every amount", "closings", [lists, whole, asked % "minus, closes, closing"],
             ("closing", "closing", closing), [(i, v) for i, v in closings if "accepted" in v["expect"]]),
@@ -154,13 +134,13 @@ def modules(everything):
         "Readings": module(
             "Reading and the file check", "readings",
             [lists, whole, "Rattle.format.specs.Reading.{accepted, refused}", asked % "minus, texts"],
-            ("reading", "texts", reading), vectors("readings", everything)),
+            ("reading", "texts", reading), vectors("readings")),
     }
 
 
-def main(folder, everything):
+def main(folder):
     os.makedirs(folder, exist_ok=True)
-    made = modules(everything)
+    made = modules()
     made["Lib"] = "".join(f"pub mod {name}\n" for name in made)
     for name, text in made.items():
         with open(os.path.join(folder, name + ".antt"), "w", encoding="utf-8") as f:
@@ -168,4 +148,4 @@ def main(folder, everything):
 
 
 if __name__ == "__main__":
-    main(sys.argv[1], "all" in sys.argv[2:])
+    main(sys.argv[1])

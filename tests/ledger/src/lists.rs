@@ -1,7 +1,7 @@
 //! All lists of calls, and what is stored of them.
 
 use crate::call::{Call, Outcome, State};
-use crate::{chains, limits, orders};
+use crate::{chains, kinds, limits, orders};
 use rateio_reference::json;
 use rateio_reference::rng::Rng;
 use rateio_reference::vectors::{closing_call, opening_call};
@@ -61,6 +61,8 @@ pub fn parts(vectors: &str) -> Vec<Vec<List>> {
         List::new("garbage", limits::garbage(rng)),
         List::new("singles", chains::singles(rng, 2_000)),
         List::new("chains", chains::small(rng, 250)),
+        List::new("cases", kinds::cases()),
+        List::new("kinds", kinds::kinds(&mut Rng::new(202_411), 200)),
     ];
     let second = vec![
         List::new("most lines", limits::most_lines()),
@@ -68,9 +70,9 @@ pub fn parts(vectors: &str) -> Vec<Vec<List>> {
         List::new("middling chains", chains::middling(rng)),
         List::new("full slices", limits::full_slices()),
         List::new("full chain", chains::full(rng)),
+        List::new("full months", limits::full_months(rng)),
     ];
-    let third = vec![List::new("full months", limits::full_months(rng))];
-    vec![first, second, third]
+    vec![first, second]
 }
 
 fn of_vectors(folder: &str) -> Vec<Call> {

@@ -5,6 +5,7 @@ mod bench;
 mod call;
 mod chains;
 mod check;
+mod kinds;
 mod limits;
 mod lists;
 mod orders;

@@ -2,7 +2,7 @@
 //! prints.
 
 use rateio_reference::program::OUTPUT_NAMES;
-use std::collections::BTreeMap;
+use std::collections::HashMap;
 
 /// A row as it is printed.
 struct Row<'a> {
@@ -65,7 +65,7 @@ pub fn as_settle(output: &[u8]) -> Result<String, String> {
 /// Whether the rows of every month add up, and credits are handed on from month to month.
 pub fn add_up(output: &[u8]) -> Result<(), String> {
     let output = std::str::from_utf8(output).map_err(|why| why.to_string())?;
-    let mut held: BTreeMap<String, i128> = BTreeMap::new();
+    let mut held: HashMap<String, i128> = HashMap::new();
     for part in parts(output)? {
         if let Part::Month(rows) = part {
             month_adds_up(&rows, &mut held).map_err(|why| format!("{}: {}", rows[0].month, why))?;
@@ -74,18 +74,19 @@ pub fn add_up(output: &[u8]) -> Result<(), String> {
     Ok(())
 }
 
-/// Sums of cents by item, payee and user; several points of one user fall together.
-struct Sums<'a>(BTreeMap<(&'a str, &'a str, &'a str), i128>);
+/// Sums of cents by item, payee and user; several points of one user fall together, and cells by row and by column.
+struct Sums<'a>(HashMap<(&'a str, &'a str, &'a str), i128>);
 
 impl<'a> Sums<'a> {
     fn of(rows: &[Row<'a>]) -> Result<Sums<'a>, String> {
-        let mut sums = BTreeMap::new();
+        let mut sums = HashMap::new();
         for row in rows {
             let cents: i128 = row.cents.parse().map_err(|_| format!("cents {:?}", row.cents))?;
-            *sums.entry((row.item, row.payee, row.user)).or_insert(0) += cents;
             if row.item == "cell" {
                 *sums.entry(("row", row.payee, "")).or_insert(0) += cents;
                 *sums.entry(("column", "", row.user)).or_insert(0) += cents;
+            } else {
+                *sums.entry((row.item, row.payee, row.user)).or_insert(0) += cents;
             }
         }
         Ok(Sums(sums))
@@ -100,7 +101,7 @@ impl<'a> Sums<'a> {
     }
 }
 
-fn month_adds_up(rows: &[Row], held: &mut BTreeMap<String, i128>) -> Result<(), String> {
+fn month_adds_up(rows: &[Row], held: &mut HashMap<String, i128>) -> Result<(), String> {
     let sums = Sums::of(rows)?;
     for row in rows.iter().filter(|row| row.item == "EUST") {
         let user = row.user;

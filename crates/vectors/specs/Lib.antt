@@ -1,2 +1,0 @@
--- What a vector gives and what is asked of the definitions.
-pub mod Asked

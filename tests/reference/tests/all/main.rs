@@ -1,0 +1,10 @@
+//! The reference calculation's tests, as one program.
+
+mod amounts;
+mod by_hand;
+mod closings;
+mod consulta;
+mod files;
+mod runs;
+mod tables;
+mod vectors;
