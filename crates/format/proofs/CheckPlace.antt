@@ -7,25 +7,21 @@ use mathlib.Core.Bool.{Bool, true, false, cond, _&&_}
 use mathlib.Core.List.{List, [], _∷_}
 use native.Mathlib.Omega.{arith}
 use native.Mathlib.Decide.{decLe}
-use lib.Dec.{leb, eqb}
 use lib.ListN.{length, drop, length-drop, drop-of-length-le}
 use lib.Seq.{drop-drop}
 use lib.IntN.{pos, negsuc}
-use borrow.Author.Tests.{leb-true}
-use Rattle.format.specs.Bytes.{startsLine}
-use Rattle.format.specs.Blocks.{free, slices, blocks}
-use Rattle.format.specs.Grammar.{line, File}
-use Rattle.format.specs.Machine.{State, stuck, at, value, isStuck, step, final, endsBefore, format, start, onward, Verdict, passes, fails, judge, number, checkOf}
-use Rattle.format.specs.Reading.{tooMany, scan, scanAt, Answer, accepted, refused, answer, reading, ReadsOn, last, then, ComesBack, here, further}
+use borrow.Author.Tests.{ne-eqb}
+use Rattle.format.specs.Blocks.{one, any, upTo, free, slices, blocks}
+use Rattle.format.specs.Grammar.{more, line, File}
+use Rattle.format.specs.Machine.{Item, byte, lines, State, stuck, at, value, isStuck, step, final, endsBefore, format, start, onward, Verdict, passes, fails, judge, number, checkOf}
+use Rattle.format.specs.Reading.{noRoom, tooMany, scan, scanAt, Answer, accepted, refused, answer, reading, ReadsOn, last, then, ComesBack, here, further}
 use Rattle.format.specs.Values.{readBlocks, fileOf}
-use Rattle.format.specs.Counting.{many, after, capacity, full, counted, scanBy}
 use Rattle.format.specs.declared.Scanned.{Scanned}
 use Rattle.format.specs.declared.Scanned.the-variants.{Whole, Faulty, Full}
-use Rattle.format.proofs.Live.{not-both, both, sound-format}
+use Rattle.format.proofs.Live.{Holds, Kept, keep-step, sound-format}
 use Rattle.format.proofs.Accepts.{within, beyond}
 use Rattle.format.proofs.FileCheck.{check-within}
 use Rattle.format.proofs.Wide.{wide, wide-start, Wider, wider}
-use Rattle.format.proofs.Counts.{counts}
 use Rattle.format.proofs.FileByFile.{next-within, checked-by-reading}
 
 -- two verdicts are not one
@@ -33,39 +29,65 @@ no-fault : (k p : ℕ) → Whole k ≡ Faulty p → ⊥
 no-fault k p e = let z : _≡_ {A = ℕ} 0 1 = cc in omega arith
 
 -- SLICES AS LONG AS THE TEXT ARE NEVER TOO SHORT: each line begun is a byte read
-module _ (room : ℕ → ℕ) where
-  full-room : (s : State) (n b : ℕ) → full room s n b ≡ true → (j : ℕ) × (room j ≤ n)
-  full-room stuck n b e = not-both false refl e
-  full-room (at f) n b e = (after f, leb-true (room (after f)) n (both (many f && startsLine b) (leb (room (after f)) n) e .1))
-  full-room (value p k f) n b e = not-both false refl e
+-- every block has room for so many lines
+abbrev Roomy : ℕ → List Item → Type 0
+Roomy n [] = Unit {0}
+Roomy n (byte c ∷ f) = Roomy n f
+Roomy n (lines one k ∷ f) = Roomy n f
+Roomy n (lines any k ∷ f) = Roomy n f
+Roomy n (lines (upTo r) k ∷ f) = (n ≤ r) × Roomy n f
 
-  one-more : (q : Bool) (n : ℕ) → cond q (n + 1) 0 ≤ n + 1
-  one-more true n = omega arith
-  one-more false n = omega arith
+module _ (n : ℕ) where
+  roomy-tail : (i : Item) (f : List Item) → Roomy n (i ∷ f) → Roomy n f
+  roomy-tail (byte c) f a = a
+  roomy-tail (lines one k) f a = a
+  roomy-tail (lines any k) f a = a
+  roomy-tail (lines (upTo r) k) f a = a .1
 
-  counted-most : (s : State) (n b : ℕ) → counted s n b ≤ n + 1
-  counted-most stuck n b = omega arith
-  counted-most (at f) n b = one-more (many f && startsLine b) n
-  counted-most (value p k f) n b = omega arith
+  roomy-less : (f : List Item) → Roomy (suc n) f → Roomy n f
+  roomy-less [] a = tt
+  roomy-less (byte c ∷ f) a = roomy-less f a
+  roomy-less (lines one k ∷ f) a = roomy-less f a
+  roomy-less (lines any k ∷ f) a = roomy-less f a
+  roomy-less (lines (upTo r) k ∷ f) a = (omega (arith, a .0), roomy-less f (a .1))
 
-  full-late : (s : State) (n k : ℕ) (t : List ℕ) (q : ℕ) → scanBy room s n k t ≡ Full q → (j : ℕ) × (room j < n + length t)
-  unfolding scanBy
-  full-late s n k [] q e = by (final s) e
-    where
-      by : (f : Bool) → cond f (Whole k) (Faulty k) ≡ Full q → (j : ℕ) × (room j < n + 0)
-      by true e = let z : _≡_ {A = ℕ} 0 1 = cc in absurd (omega arith)
-      by false e = let z : _≡_ {A = ℕ} 0 1 = cc in absurd (omega arith)
-  full-late s n k (b ∷ t) q e =
-      by (endsBefore s b) (full room s n b) (isStuck (step s b)) refl e (full-late (step s b) (counted s n b) (k + 1) t q)
-    where
-      by : (o f d : Bool) → full room s n b ≡ f
-          → cond o (Whole k) (cond f (Full k) (cond d (Faulty k) (scanBy room (step s b) (counted s n b) (k + 1) t))) ≡ Full q
-          → (scanBy room (step s b) (counted s n b) (k + 1) t ≡ Full q → (j : ℕ) × (room j < counted s n b + length t))
-          → (j : ℕ) × (room j < n + suc (length t))
-      by true f d x e r = let z : _≡_ {A = ℕ} 0 1 = cc in absurd (omega arith)
-      by false true d x e r = let c = full-room s n b x in (c .0, omega (arith, c .1))
-      by false false true x e r = let z : _≡_ {A = ℕ} 0 1 = cc in absurd (omega arith)
-      by false false false x e r = let c = r e in (c .0, omega (arith, c .1, counted-most s n b))
+-- with every byte one line less
+roomy-kept : (n : ℕ) → Kept (Roomy (suc n)) (Roomy n)
+roomy-kept n =
+    record {
+      tail = roomy-tail (suc n);
+      so = roomy-less n;
+      less = λ r k f a. (omega (arith, a .0), roomy-less n f (a .1));
+    }
+
+-- where there is room for a line, none is too many
+roomy-enough : (n b : ℕ) (s : State) → Holds (Roomy (suc n)) s → tooMany s b ≡ false
+roomy-enough n b stuck a = refl
+roomy-enough n b (at f) a = rw (room f a)
+  where
+    room : (f : List Item) → Roomy (suc n) f → noRoom f ≡ false
+    room [] a = refl
+    room (byte c ∷ f) a = refl
+    room (lines one k ∷ f) a = refl
+    room (lines any k ∷ f) a = refl
+    room (lines (upTo r) k ∷ f) a = ne-eqb r 0 (λ e. omega (arith, a .0))
+roomy-enough n b (value p k f) a = refl
+
+never-full : (s : State) (k : ℕ) (t : List ℕ) → Holds (Roomy (length t)) s → (q : ℕ) → scan s k t ≡ Full q → ⊥
+unfolding scan
+never-full s k [] a q e = by (final s) e
+  where
+    by : (f : Bool) → cond f (Whole k) (Faulty k) ≡ Full q → ⊥
+    by true e = let z : _≡_ {A = ℕ} 0 1 = cc in omega arith
+    by false e = let z : _≡_ {A = ℕ} 0 1 = cc in omega arith
+never-full s k (b ∷ t) a q e =
+    by (endsBefore s b) (isStuck (step s b)) (rw (roomy-enough (length t) b s a) at e)
+    (never-full (step s b) (k + 1) t (keep-step (Roomy (suc (length t))) (Roomy (length t)) (roomy-kept (length t)) b s a) q)
+  where
+    by : (o d : Bool) → cond o (Whole k) (cond d (Faulty k) (scan (step s b) (k + 1) t)) ≡ Full q → (scan (step s b) (k + 1) t ≡ Full q → ⊥) → ⊥
+    by true d e r = let z : _≡_ {A = ℕ} 0 1 = cc in omega arith
+    by false true e r = let z : _≡_ {A = ℕ} 0 1 = cc in omega arith
+    by false false e r = r e
 
 -- THE FILE CHECK GOES FILE BY FILE
 -- from the end of a file on
@@ -139,18 +161,11 @@ same-end s k (b ∷ t) n e = by (endsBefore s b) (tooMany s b) (isStuck (step s 
 
 -- WITH SLICES AS LONG AS THE TEXT
 module _ (a u p : ℕ) (t : List ℕ) (ha : length t ≤ a) (hu : length t ≤ u) (hp : length t ≤ p) where
-  enough : (j : ℕ) → length t ≤ capacity a u p j
-  enough j = by (eqb j 0) (eqb j 1)
-    where
-      by : (x y : Bool) → length t ≤ cond x p (cond y u a)
-      by true y = hp
-      by false true = hu
-      by false false = ha
-
-  never-full : (k from q : ℕ) → scan (start (slices a u p)) k (drop from t) ≡ Full q → ⊥
-  never-full k from q e =
-      let c = full-late (capacity a u p) (start free) 0 k (drop from t) q (sym (counts a u p k (drop from t)) ∙ e) in
-      omega (arith, c .1, enough (c .0), length-drop from t)
+  roomy : (from : ℕ) → Roomy (length (drop from t)) (format (slices a u p))
+  unfolding format line more
+  roomy from =
+      let l = length-drop from t in
+      (omega arith, (omega arith, (omega arith, tt)))
 
   -- reading's verdict is that with any room
   wide-verdict : (k from : ℕ) (v : Scanned) → scan (start (slices a u p)) k (drop from t) ≡ v → scan (start free) k (drop from t) ≡ v
@@ -162,7 +177,7 @@ module _ (a u p : ℕ) (t : List ℕ) (ha : length t ≤ a) (hu : length t ≤ u
           → scan (wide (start (slices a u p))) k (drop from t) ≡ v
       by (Whole n) e w = w
       by (Faulty n) e w = w
-      by (Full n) e w = absurd (never-full k from n e)
+      by (Full n) e w = absurd (never-full (start (slices a u p)) k (drop from t) (roomy from) n e)
 
   -- what an answer tells of the verdict
   was-whole : (from next : ℕ) (f : File) → reading (slices a u p) t from ≡ accepted f next → scanAt (slices a u p) t from ≡ Whole next
@@ -185,7 +200,7 @@ module _ (a u p : ℕ) (t : List ℕ) (ha : length t ≤ a) (hu : length t ≤ u
           → (c ≡ 11) × (v ≡ Faulty q)
       by (Whole n) g x e = let z : _≡_ {A = ℕ} 0 1 = cc in absurd (omega arith)
       by (Faulty n) g x e = let h : 11 ≡ c = cc in let i : n ≡ q = cc in (sym h, ap (λ (y : ℕ). Faulty y) i)
-      by (Full n) g x e = absurd (never-full (min from (length t)) from n x)
+      by (Full n) g x e = absurd (never-full (start (slices a u p)) (min from (length t)) (drop from t) (roomy from) n x)
 
   -- the check from a file's end on is the check of what is left
   goes-on :
@@ -219,7 +234,7 @@ module _ (a u p : ℕ) (t : List ℕ) (ha : length t ≤ a) (hu : length t ≤ u
   -- BY READING'S VERDICTS: how the check goes on from a position, as a program finds it
   pub never-too-many : (from q : ℕ) → scanAt (slices a u p) t from ≡ Full q → ⊥
   unfolding scanAt
-  never-too-many from q e = never-full (min from (length t)) from q e
+  never-too-many from q e = never-full (start (slices a u p)) (min from (length t)) (drop from t) (roomy from) q e
 
   pub check-fault : (from q : ℕ) → scanAt (slices a u p) t from ≡ Faulty q → judge (start free) (min from (length t)) (drop from t) ≡ fails q
   unfolding scanAt
