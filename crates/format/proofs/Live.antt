@@ -6,10 +6,10 @@ use mathlib.Core.List.{List, [], _∷_, _++_}
 use native.Mathlib.Omega.{arith}
 use lib.Dec.{ltb, eqb}
 use borrow.Author.Tests.{eq-eqb}
-use Rattle.format.specs.Bytes.{lf, comma, minus, isDigit, isLead, startsLine}
-use Rattle.format.specs.Blocks.{one, any, upTo, Rooms}
+use Rattle.format.specs.Bytes.{lf, lineEnd, comma, minus, isDigit, isLead, startsLine}
+use Rattle.format.specs.Blocks.{one, any, upTo, Slices}
 use Rattle.format.specs.Grammar.{more, line}
-use Rattle.format.specs.Machine.{Item, byte, lines, format, Part, fresh, signed, nought, digits, State, stuck, at, value, isStuck, lead, ends, inValue, enter, step, final, run, From}
+use Rattle.format.specs.Machine.{Item, byte, end, lines, format, Part, fresh, signed, nought, digits, State, stuck, at, value, isStuck, lead, ends, inValue, enter, step, final, run, From}
 
 -- true is not false
 pub not-both : {X : Type 0} (t : Bool) → t ≡ false → t ≡ true → X
@@ -23,11 +23,13 @@ both false q e = not-both false refl e
 abbrev pub Quiet : List Item → Type 0
 Quiet [] = Unit {0}
 Quiet (byte c ∷ f) = startsLine c ≡ false
+Quiet (end ∷ f) = ⊥
 Quiet (lines n k ∷ f) = ⊥
 
 abbrev pub Sound : List Item → Type 0
 Sound [] = Unit {0}
 Sound (byte c ∷ f) = Sound f
+Sound (end ∷ f) = Sound f
 Sound (lines n k ∷ f) = Quiet f × Sound f
 
 -- what holds of the items still to come
@@ -67,6 +69,7 @@ module _ (P Q : List Item → Type 0) (c : Kept P Q) (b : ℕ) where
   unfolding enter
   keep-enter [] t = tt
   keep-enter (byte n ∷ f) t = holds-cond Q (eqb b n) (at f) stuck (c .so f (c .tail (byte n) f t)) tt
+  keep-enter (end ∷ f) t = keep-ends zero f (c .so f (c .tail end f t))
   keep-enter (lines one k ∷ f) t = keep-value fresh k f (c .so f (c .tail (lines one k) f t))
   keep-enter (lines any k ∷ f) t =
       holds-cond Q (startsLine b) _ (enter f b) (keep-value fresh k (lines any k ∷ f) (c .so (lines any k ∷ f) t))
@@ -92,23 +95,25 @@ sound-kept = record { tail = tail; so = λ f s. s; less = λ n k f s. s }
   where
     tail : (i : Item) (f : List Item) → Sound (i ∷ f) → Sound f
     tail (byte c) f s = s
+    tail end f s = s
     tail (lines n k) f s = s .1
 
 pub good-step : (b : ℕ) (s : State) → Good s → Good (step s b)
 good-step b s g = keep-step Sound Sound sound-kept b s g
 
-pub sound-format : (r : Rooms) → Sound (format r)
+pub sound-format : (r : Slices) → Sound (format r)
 unfolding format more line
 sound-format r = (refl, (refl, (refl, (tt, tt))))
 
 -- THE SHORTEST WAY TO AN END: zeros to the end of a line, one line where there must be one, and the names
 zeros : ℕ → List ℕ
-zeros zero = lf ∷ []
+zeros zero = lineEnd
 zeros (suc k) = comma ∷ (48 ∷ zeros k)
 
 finish : List Item → List ℕ
 finish [] = []
 finish (byte c ∷ f) = c ∷ finish f
+finish (end ∷ f) = lineEnd ++ finish f
 finish (lines one k ∷ f) = 48 ∷ (zeros k ++ finish f)
 finish (lines any k ∷ f) = finish f
 finish (lines (upTo n) k ∷ f) = finish f
@@ -148,6 +153,10 @@ module _ (c : ℕ) (f : List Item) where
     skip-upTo zero k = rw (q, eq-eqb c c refl)
     skip-upTo (suc n) k = rw (q, eq-eqb c c refl)
 
+pub end-hit : (f : List Item) → step (at (end ∷ f)) lf ≡ at f
+unfolding step enter
+end-hit f = refl
+
 -- one byte back
 pub go : (b : ℕ) (s s' : State) (t : List ℕ) → step s b ≡ s' → From s' t → From s (b ∷ t)
 unfolding run
@@ -161,13 +170,16 @@ finishes : (f : List Item) → Sound f → From (at f) (finish f)
 unfolding run finish
 finishes [] t = refl
 finishes (byte c ∷ f) t = go c _ (at f) (finish f) (hit c f) (finishes f t)
+finishes (end ∷ f) t = go lf _ (at f) (finish f) (end-hit f) (finishes f t)
 finishes (lines one k ∷ f) t =
     go 48 _ (value nought k f) (zeros k ++ finish f) (line-zero k f) (ap final (nought-ends f (finish f) k) ∙ finishes f (t .1))
 finishes (lines any k ∷ []) t = refl
 finishes (lines any k ∷ (byte c ∷ f)) t = go c _ (at f) (finish f) (skip-any c f (t .0) k) (finishes f (t .1))
+finishes (lines any k ∷ (end ∷ f)) t = absurd (t .0)
 finishes (lines any k ∷ (lines n j ∷ f)) t = absurd (t .0)
 finishes (lines (upTo n) k ∷ []) t = refl
 finishes (lines (upTo n) k ∷ (byte c ∷ f)) t = go c _ (at f) (finish f) (skip-upTo c f (t .0) n k) (finishes f (t .1))
+finishes (lines (upTo n) k ∷ (end ∷ f)) t = absurd (t .0)
 finishes (lines (upTo n) k ∷ (lines o j ∷ f)) t = absurd (t .0)
 
 -- LIVENESS: a state that is not stuck can be finished
