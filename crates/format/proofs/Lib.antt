@@ -7,7 +7,6 @@
 --   FileByFile  a text is files on end exactly where reading reads file after file to its end (`file-by-file`, `checked-by-reading`)
 --   CheckPlace  the file check's place is that of the file that comes back (`checked-by-refusal`), and how a
 --               program finds it file by file (`check-fault`, `check-on`, `check-last`)
---   Counts      reading's verdict by a count of lines, for a program (`counts`, `counts-at`)
 --   Examples    paper 01's file and its refusals, by computation
 pub mod Decimals
 pub mod Live
@@ -23,6 +22,5 @@ pub mod Scans
 pub mod Wide
 pub mod Answers
 pub mod FileByFile
-pub mod Counts
 pub mod CheckPlace
 pub mod Examples

@@ -7,7 +7,7 @@ use mathlib.Core.List.{List, [], _∷_, _++_}
 use lib.ListN.{length, take}
 use lib.IntN.{ℤ, pos, negsuc}
 use Rattle.format.specs.Bytes.{m}
-use Rattle.format.specs.Blocks.{Rooms}
+use Rattle.format.specs.Blocks.{Slices}
 use Rattle.format.specs.Grammar.{File, fileText, Fits, Files}
 use Rattle.format.specs.Machine.{Verdict, passes, fails}
 
@@ -34,8 +34,8 @@ abbrev pub Follows : List ℕ → Type 0
 Follows [] = Unit {0}
 Follows (b ∷ t) = b ≡ m
 
--- at the start of the text stands one file that there is room for
-pub record Stands (r : Rooms) (t : List ℕ) : Type 0 where
+-- at the start of the text stands one file that the slices take
+pub record Stands (r : Slices) (t : List ℕ) : Type 0 where
   pub file : File
   pub rest : List ℕ
   pub fits : Fits r file

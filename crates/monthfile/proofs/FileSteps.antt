@@ -6,59 +6,46 @@ use mathlib.Core.List.{List, [], _∷_, _++_, map-id}
 use native.Mathlib.Omega.{arith}
 use lib.ListN.{length, drop, getD}
 use lib.IntN.{ℤ, pos}
-use Rattle.format.specs.Blocks.{slices, blocks}
-use Rattle.format.specs.Grammar.{File, line, more}
-use Rattle.format.specs.Values.{Got, readValue, readLine, readLines, readBlocks, fileOf, lineHere}
+use Rattle.format.specs.Blocks.{Slices, slices, blocks}
+use Rattle.format.specs.Grammar.{File, more}
+use Rattle.format.specs.Values.{Got, pastEnd, readLines, readBlocks, fileOf, lineHere}
 use Rattle.format.specs.Reading.{scanAt, reading, answer}
 use Rattle.format.specs.declared.Scanned.{Scanned}
 use Rattle.format.specs.declared.Scanned.the-variants.{Whole}
 use Rattle.format.proofs.FileByFile.{next-within}
-use Rattle.monthfile.specs.At.{GotAt, On, Filled, asRead}
-use Rattle.monthfile.specs.Reads.{MonthAt, Ready, Unread, Prepared, Begun, fileAt, over}
-use Rattle.monthfile.specs.declared.reading.Month.{Month}
+use Rattle.monthfile.specs.At.{LineAt, Past, Filled, asRead}
+use Rattle.monthfile.specs.Reads.{over}
+use Rattle.monthfile.specs.Parts.{monthOf, MonthAt, Ready, Unread, Prepared, Judged, fileAt}
+use Rattle.monthfile.specs.declared.reading.MonthRead.{MonthRead}
 use Rattle.monthfile.specs.declared.reading.Started.{Started}
-use Rattle.monthfile.proofs.ReadSteps.{on-drop}
+use Rattle.monthfile.proofs.ReadSteps.{one-line, none-here}
 
 -- an accepted file begins inside the text
-pub begins-inside : (a u p : ℕ) (t : List ℕ) (from n : ℕ) → scanAt (slices a u p) t from ≡ Whole n → (from < n) × (n ≤ length t)
+pub begins-inside : (r : Slices) (t : List ℕ) (from n : ℕ) → scanAt r t from ≡ Whole n → (from < n) × (n ≤ length t)
 unfolding reading
-begins-inside a u p t from n e = next-within a u p t from n _ (ap (answer (fileAt a u p t from)) e)
+begins-inside r t from n e = next-within r t from n _ (ap (answer (fileAt r t from)) e)
 
 -- the month line
-two-values : (u v w : List ℕ) → lineHere u ≡ true → drop 1 (readValue u .left) ≡ v → drop 1 (readValue v .left) ≡ w
-    → readLines 1 2 u ≡ record { got = (readValue u .got ∷ readValue v .got ∷ []) ∷ []; left = w }
-unfolding readLines readLine
-two-values u v w h e f = rw (h, e, f)
-
-no-line : (u : List ℕ) → lineHere u ≡ false → readLines 1 2 u ≡ record { got = []; left = u }
-unfolding readLines
-no-line u e = rw e
-
 module _ (t : List ℕ) (i : ℕ) where
   pub month-read :
-      (m o : ℤ) (n n' k k' : ℕ)
+      (row : List ℤ) (next : ℕ)
       → lineHere (drop i t) ≡ true
-      → GotAt t (readValue (drop i t)) m n
-      → On (length t) n 1 n'
-      → GotAt t (readValue (drop n' t)) o k
-      → On (length t) k 1 k'
-      → MonthAt t i (record { month = m; ons = o; next = k' })
-  month-read m o n n' k k' h g d q b =
-      let e =
-      two-values (drop i t) (drop n' t) (drop k' t) h (ap (drop 1) (g .left) ∙ on-drop t n 1 n' d) (ap (drop 1) (q .left) ∙ on-drop t k 1 k' b) in
+      → LineAt t i 2 row next
+      → MonthAt t i (record { line = record { month = getD row 0 (pos 0); ons = getD row 1 (pos 0) }; next = next })
+  unfolding readLines
+  month-read row next h g =
+      let e = one-line 0 2 (drop i t) h in
       record {
-        month = sym (ap (λ (r : Got (List (List ℤ))). getD (getD (r .got) 0 []) 0 (pos 0)) e ∙ g .got);
-        ons = sym (ap (λ (r : Got (List (List ℤ))). getD (getD (r .got) 0 []) 1 (pos 0)) e ∙ q .got);
-        left = ap (λ (r : Got (List (List ℤ))). r .left) e;
-        within = b .within;
+        line = sym (ap (λ (r : Got (List (List ℤ))). monthOf (r .got)) e ∙ ap (λ (l : List ℤ). monthOf (l ∷ [])) (g .got));
+        left = ap (λ (r : Got (List (List ℤ))). r .left) e ∙ g .left;
+        within = g .within;
       }
 
-  pub no-month : i ≤ length t → lineHere (drop i t) ≡ false → MonthAt t i (record { month = pos 0; ons = pos 0; next = i })
+  pub no-month : i ≤ length t → lineHere (drop i t) ≡ false → MonthAt t i (record { line = record { month = pos 0; ons = pos 0 }; next = i })
   no-month h e =
-      let f = no-line (drop i t) e in
+      let f = none-here 1 2 (drop i t) e in
       record {
-        month = sym (ap (λ (r : Got (List (List ℤ))). getD (getD (r .got) 0 []) 0 (pos 0)) f);
-        ons = sym (ap (λ (r : Got (List (List ℤ))). getD (getD (r .got) 0 []) 1 (pos 0)) f);
+        line = sym (ap (λ (r : Got (List (List ℤ))). monthOf (r .got)) f);
         left = ap (λ (r : Got (List (List ℤ))). r .left) f;
         within = h;
       }
@@ -66,26 +53,26 @@ module _ (t : List ℕ) (i : ℕ) where
 -- the four blocks
 module _ (a u p : ℕ) (s : List ℕ) where
   abbrev months : Got (List (List ℤ))
-  months = readLines 1 2 (drop 10 s)
+  months = readLines 1 2 (pastEnd (drop 9 s))
 
   abbrev agents : Got (List (List ℤ))
-  agents = readLines a 7 (drop 27 (months .left))
+  agents = readLines a 7 (pastEnd (drop 26 (months .left)))
 
   abbrev users : Got (List (List ℤ))
-  users = readLines u 3 (drop 14 (agents .left))
+  users = readLines u 3 (pastEnd (drop 13 (agents .left)))
 
   abbrev points : Got (List (List ℤ))
-  points = readLines p 9 (drop 27 (users .left))
+  points = readLines p 9 (pastEnd (drop 26 (users .left)))
 
   file-is : fileOf (readBlocks (blocks (slices a u p)) s .got)
       ≡ record {
-        month = getD (getD (months .got) 0 []) 0 (pos 0);
-        ons = getD (getD (months .got) 0 []) 1 (pos 0);
+        month = monthOf (months .got) .month;
+        ons = monthOf (months .got) .ons;
         agents = agents .got;
         users = users .got;
         points = points .got;
       }
-  unfolding readBlocks line more
+  unfolding readBlocks more
   file-is = refl
 
 -- lines in their slice
@@ -114,33 +101,31 @@ module _ (t : List ℕ) (from : ℕ) (as₀ us₀ as' us' : List (List ℤ)) (p 
   s = drop from t
 
   pub ready :
-      (i₀ i₁ i₂ i₃ : ℕ) (m : Month) (ac an uc un : ℕ) (b : Started)
-      → On (length t) from 10 i₀
+      (i₀ i₁ i₂ i₃ : ℕ) (m : MonthRead) (ac an uc un : ℕ) (b : Started)
+      → Past t (pastEnd (drop 9 (drop from t))) i₀
       → MonthAt t i₀ m
-      → On (length t) (m .next) 27 i₁
+      → Past t (pastEnd (drop 26 (drop (m .next) t))) i₁
       → Filled asRead t i₁ a 7 as₀ as' ac an
-      → On (length t) an 14 i₂
+      → Past t (pastEnd (drop 13 (drop an t))) i₂
       → Filled asRead t i₂ u 3 us₀ us' uc un
-      → On (length t) un 27 i₃
-      → b .month ≡ m .month
-      → b .ons ≡ m .ons
+      → Past t (pastEnd (drop 26 (drop un t))) i₃
+      → b .line ≡ m .line
       → b .agents ≡ ac
       → b .users ≡ uc
       → b .at ≡ i₃
       → b .room ≡ p
-      → Ready t (fileAt a u p t from) as₀ us₀ p as' us' b
-  ready i₀ i₁ i₂ i₃ m ac an uc un b o₀ g₀ o₁ g₁ o₂ g₂ o₃ em eo ea eu ei er =
-      let e₀ : readLines 1 2 (drop i₀ t) ≡ months a u p s = sym (ap (readLines 1 2) (on-drop t from 10 i₀ o₀)) in
+      → Ready t (fileAt (slices a u p) t from) as₀ us₀ p as' us' b
+  ready i₀ i₁ i₂ i₃ m ac an uc un b o₀ g₀ o₁ g₁ o₂ g₂ o₃ el ea eu ei er =
+      let e₀ : readLines 1 2 (drop i₀ t) ≡ months a u p s = sym (ap (readLines 1 2) (o₀ .is)) in
       let l₀ : months a u p s .left ≡ drop (m .next) t = sym (ap (λ (r : Got (List (List ℤ))). r .left) e₀) ∙ g₀ .left in
-      let e₁ : readLines a 7 (drop i₁ t) ≡ agents a u p s = sym (ap (readLines a 7) (ap (drop 27) l₀ ∙ on-drop t (m .next) 27 i₁ o₁)) in
+      let e₁ : readLines a 7 (drop i₁ t) ≡ agents a u p s = sym (ap (readLines a 7) (ap (λ (x : List ℕ). pastEnd (drop 26 x)) l₀ ∙ o₁ .is)) in
       let f₁ = filled-is t i₁ a 7 as₀ as' ac an (agents a u p s) e₁ g₁ in
-      let e₂ : readLines u 3 (drop i₂ t) ≡ users a u p s = sym (ap (readLines u 3) (ap (drop 14) (f₁ .1 .1) ∙ on-drop t an 14 i₂ o₂)) in
+      let e₂ : readLines u 3 (drop i₂ t) ≡ users a u p s = sym (ap (readLines u 3) (ap (λ (x : List ℕ). pastEnd (drop 13 x)) (f₁ .1 .1) ∙ o₂ .is)) in
       let f₂ = filled-is t i₂ u 3 us₀ us' uc un (users a u p s) e₂ g₂ in
-      let e₃ : readLines p 9 (drop i₃ t) ≡ points a u p s = sym (ap (readLines p 9) (ap (drop 27) (f₂ .1 .1) ∙ on-drop t un 27 i₃ o₃)) in
+      let e₃ : readLines p 9 (drop i₃ t) ≡ points a u p s = sym (ap (readLines p 9) (ap (λ (x : List ℕ). pastEnd (drop 26 x)) (f₂ .1 .1) ∙ o₃ .is)) in
       subst (λ (f : File). Ready t f as₀ us₀ p as' us' b) (sym (file-is a u p s))
       (record {
-        month = em ∙ g₀ .month ∙ ap (λ (r : Got (List (List ℤ))). getD (getD (r .got) 0 []) 0 (pos 0)) e₀;
-        ons = eo ∙ g₀ .ons ∙ ap (λ (r : Got (List (List ℤ))). getD (getD (r .got) 0 []) 1 (pos 0)) e₀;
+        line = el ∙ g₀ .line ∙ ap (λ (r : Got (List (List ℤ))). monthOf (r .got)) e₀;
         agents-count = ea ∙ f₁ .0;
         users-count = eu ∙ f₂ .0;
         agents-are = f₁ .1 .0;
@@ -151,14 +136,14 @@ module _ (t : List ℕ) (from : ℕ) (as₀ us₀ as' us' : List (List ℤ)) (p 
       })
 
 -- judged, and prepared as the verdict says
-pub begun :
+pub judges :
     (t : List ℕ) (from : ℕ) (as₀ us₀ as' us' : List (List ℤ)) (p : ℕ) (b : Started) (v w : Scanned)
     → b .verdict ≡ v
     → w ≡ v
     → w ≡ scanAt (slices (length as₀) (length us₀) p) t from
     → Prepared t from as₀ us₀ p as' us' b v
-    → Begun t from as₀ us₀ p as' us' b
-begun t from as₀ us₀ as' us' p b v w e f g x =
+    → Judged t from as₀ us₀ p as' us' b
+judges t from as₀ us₀ as' us' p b v w e f g x =
     record { verdict = e ∙ sym f ∙ g; prepared = subst (Prepared t from as₀ us₀ p as' us' b) (sym e) x }
 
 pub unread : (t : List ℕ) (as₀ us₀ : List (List ℤ)) (b : Started) → b .at ≡ 0 → b .room ≡ 0 → Unread t as₀ us₀ as₀ us₀ b

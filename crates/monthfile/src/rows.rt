@@ -6,6 +6,7 @@ ghost use Rattle.monthfile.specs.At.{Filled, asRead};
 use crate::line::line_here;
 use crate::values::line_at;
 use rules::AgentLine;
+use rules::PointLine;
 use rules::UserLine;
 
 // How many lines were read, and the place after them.
@@ -44,6 +45,25 @@ pub fn users_at(text: &[u8], at: usize, users: &mut [UserLine]) -> Lines
             let mut row = [0i64; 3];
             i = line_at(text, i, &mut row);
             users[n] = row;
+            n += 1;
+        } else {
+            return Lines { count: n, next: i };
+        }
+    }
+    Lines { count: n, next: i }
+}
+
+pub fn points_at(text: &[u8], at: usize, points: &mut [PointLine]) -> Lines
+    requires { ⌜ at ≤ length (now text) ⌝ }
+    ensures { λ r. ⌜ Filled asRead (now (text .entry)) at (length (now (points .entry))) 9 (now (points .entry)) (now (points .exit)) (r .count) (r .next) ⌝ }
+{
+    let mut i = at;
+    let mut n = 0;
+    while n < points.len() {
+        if line_here(text, i) {
+            let mut row = [0i64; 9];
+            i = line_at(text, i, &mut row);
+            points[n] = row;
             n += 1;
         } else {
             return Lines { count: n, next: i };
