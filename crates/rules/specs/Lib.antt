@@ -3,6 +3,7 @@ pub mod Verdict
 pub mod Lists
 pub mod Calendar
 pub mod Lines
+pub mod State
 pub mod Charges
 pub mod Credits
 pub mod Table
