@@ -6,7 +6,7 @@ use lib.IntN.{ℤ, pos}
 use lib.ListN.{length, getD, length-map}
 use Rattle.rules.specs.Lists.{getD-map}
 use Rattle.rules.specs.Lines.{Agent, agentOf}
-use Rattle.rules.proofs.Fits.{AmountsFit}
+use Rattle.rules.specs.Ranges.{AmountsFit}
 
 -- at most 256 agents, with every amount in its range
 pub record AgentLines (agents : List Agent) : Type 0 where

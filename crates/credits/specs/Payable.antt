@@ -13,7 +13,7 @@ use Rattle.rules.specs.Calendar.{impossibleMonth}
 use Rattle.rules.specs.Lines.{Agent, Lines}
 use Rattle.rules.specs.Charges.{VDs}
 use Rattle.rules.specs.Credits.{ownCredit, ownCredits, SMSE, VMANTs, VCs}
-use Rattle.rules.proofs.Fits.{Amount}
+use Rattle.rules.specs.Ranges.{Amount}
 use Rattle.credits.specs.Columns.{AgentLines}
 
 -- debits are at most what 1,024 points and 512 corrections come to

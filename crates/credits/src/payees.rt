@@ -12,7 +12,7 @@ ghost use Rattle.rules.specs.Calendar.{impossibleMonth};
 ghost use Rattle.rules.specs.Lines.{agentOf};
 ghost use Rattle.rules.specs.Credits.{ownCredit};
 ghost use Rattle.rules.specs.Lists.{sideBySide};
-ghost use Rattle.rules.proofs.Fits.{Amount};
+ghost use Rattle.rules.specs.Ranges.{Amount};
 ghost use Rattle.credits.specs.Columns.{AgentLines};
 ghost use Rattle.credits.specs.Payable.{Payable, AgentCredits, VCsFrom};
 use rules::AgentLine;

@@ -10,7 +10,7 @@ ghost use lib.ListN.{length};
 ghost use Rattle.ints.specs.Range.{Within};
 ghost use Rattle.rules.specs.Calendar.{impossibleMonth};
 ghost use Rattle.rules.specs.Lines.{agentOf};
-ghost use Rattle.rules.proofs.Fits.{AmountsFit};
+ghost use Rattle.rules.specs.Ranges.{AmountsFit};
 ghost use Rattle.credits.specs.Columns.{AgentLines};
 ghost use Rattle.credits.specs.Payable.{Payable};
 use libc::STDOUT_FILENO;

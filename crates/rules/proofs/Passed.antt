@@ -1,6 +1,6 @@
 -- A closing that nothing refuses has passed every test of paper 01's refusals 1 to 10: what is known of it from then on.
 use Prim.Native.Nat.{ℕ, suc, _≤_, _<_}
-use mathlib.Core.Path.{_≡_, refl}
+use mathlib.Core.Path.{_≡_, refl, sym, _∙_}
 use mathlib.Core.Logic.{_≢_}
 use mathlib.Core.Bool.{Bool, true, false, not, _||_}
 use mathlib.Core.List.{List, [], map}
@@ -13,14 +13,17 @@ use borrow.Author.Tests.{ltb-false, eqb-true, eqb-false, not-false}
 use Rattle.ints.specs.Bridge.{leZ-false, lt-out}
 use Rattle.ints.specs.Range.{Within, or-false, outside-false, eqZ, eqZ-true, eqZ-false}
 use Rattle.ints.specs.Sums.{sumℤ}
+use Rattle.rules.specs.declared.MonthLine.{MonthLine}
 use Rattle.rules.specs.Verdict.{Verdict, accepted, eachLine}
 use Rattle.rules.specs.Lines.{Lines, agentOf, userOf, pointOf}
 use Rattle.rules.specs.Charges.{pvTotal, EUSTs, VDs}
 use Rattle.rules.specs.Credits.{pbs}
 use Rattle.rules.specs.State.{State}
 use Rattle.rules.specs.Refusals.{Lengths, badCounts, cellsNeeded, workNeeded, shortSlices, badMonth, creditTest, agentTest, userTest, pointTest, countTests, stateTests, linesBeforePoints, lineTests, weightTests, sumTests, refusal}
+use Rattle.rules.specs.Tested.{Tested}
 use Rattle.rules.proofs.Tests.{then-accepted, when-accepted, when-then, and-false, each-from-1}
-use Rattle.rules.proofs.Fits.{Amount, Possible, possible, AgentFits, agent-fits, UserFits, user-fits, PointPassed, point-passed}
+use Rattle.rules.specs.Ranges.{Amount}
+use Rattle.rules.proofs.Fits.{Possible, possible, AgentFits, agent-fits, UserFits, user-fits, PointPassed, point-passed}
 
 -- every test was passed but 2, of the slices that a call is lent
 pub record Passed (s : State) (l : Lines) : Type 0 where
@@ -70,17 +73,17 @@ between n most e =
     let z : n ≡ 0 → ⊥ = eqb-false n 0 (f .0) in
     (omega (arith, z), ltb-false most n (f .1))
 
-record Counts (s : State) (l : Lines) : Type 0 where
-  users-between : (0 < length (l .users)) × (length (l .users) ≤ 512)
-  agents-between : (0 < length (l .agents)) × (length (l .agents) ≤ 256)
-  points : length (l .points) ≤ 1024
-  users : length (l .users) ≡ s .users
-  agents : length (l .agents) ≡ s .agents
-  last-month : s .month ≢ pos 0 → Possible (s .month)
+pub record Counts (s : State) (users agents points : ℕ) : Type 0 where
+  pub users-between : (0 < users) × (users ≤ 512)
+  pub agents-between : (0 < agents) × (agents ≤ 256)
+  pub few-points : points ≤ 1024
+  pub same-users : users ≡ s .users
+  pub same-agents : agents ≡ s .agents
+  pub last-month : s .month ≢ pos 0 → Possible (s .month)
 
-counts : (s : State) (l : Lines) → badCounts s (length (l .users)) (length (l .agents)) (length (l .points)) ≡ false → Counts s l
+pub counts : (s : State) (users agents points : ℕ) → badCounts s users agents points ≡ false → Counts s users agents points
 unfolding badCounts
-counts s l e =
+counts s users agents points e =
     let e₅ = or-false _ _ e in
     let e₄ = or-false _ _ (e₅ .0) in
     let e₃ = or-false _ _ (e₄ .0) in
@@ -89,9 +92,9 @@ counts s l e =
     record {
       users-between = between _ 512 (e₁ .0);
       agents-between = between _ 256 (e₁ .1);
-      points = ltb-false _ _ (e₂ .1);
-      users = eqb-true _ _ (not-false _ (e₃ .1));
-      agents = eqb-true _ _ (not-false _ (e₄ .1));
+      few-points = ltb-false _ _ (e₂ .1);
+      same-users = eqb-true _ _ (not-false _ (e₃ .1));
+      same-agents = eqb-true _ _ (not-false _ (e₄ .1));
       last-month = λ z. possible _ (and-false _ _ (e₅ .1) (not-equal _ _ z));
     }
 
@@ -111,6 +114,23 @@ slices s n e =
 month-after : (last month : ℤ) → badMonth last month ≡ false → Possible month × (last <ℤ month)
 unfolding badMonth
 month-after last month e = let f = or-false _ _ e in (possible _ (f .0), lt-out (leZ-false month last (f .1)))
+
+-- 3 and 4
+pub record StatePassed (s : State) (line : MonthLine) : Type 0 where
+  pub month : Possible (line .month)
+  pub later : s .month <ℤ line .month
+  pub credits : (j : ℕ) → j < length (s .credits) → Within (pos 0) (pos 100000000000000000) (getD (s .credits) j (pos 0))
+
+pub state-passed : (s : State) (line : MonthLine) → stateTests s line ≡ accepted → StatePassed s line
+unfolding stateTests
+state-passed s line e =
+    let a = when-then (badMonth (s .month) (line .month)) 3 0 _ e in
+    let m = month-after (s .month) (line .month) (a .0) in
+    record {
+      month = m .0;
+      later = m .1;
+      credits = λ j h. outside-false _ _ _ (when-accepted _ 4 (suc j) (each-from-1 creditTest (s .credits) (pos 0) (a .1) j h));
+    }
 
 -- ons and the lines of each block
 pub record LinesPassed (l : Lines) : Type 0 where
@@ -161,27 +181,33 @@ module _ (s : State) (short : Verdict) (l : Lines) (e : refusal s short l ≡ ac
   unfolding countTests
   slices-accepted = when-then (badCounts s (length (l .users)) (length (l .agents)) (length (l .points))) 1 0 _ (parts .0) .1
 
+  -- what its amounts ask, where there is one held credit for each user
+  pub tested : length (s .credits) ≡ s .users → Tested s l
+  unfolding countTests
+  tested w =
+      let e = when-then (badCounts s (length (l .users)) (length (l .agents)) (length (l .points))) 1 0 _ (parts .0) .0 in
+      record { counts = e; state = parts .1; lines = parts .2; held = w ∙ sym (counts s _ _ _ e .same-users) }
+
   -- all others
   pub passed : Passed s l
-  unfolding countTests stateTests
+  unfolding countTests
   passed =
-      let first = counts s l (when-then (badCounts s (length (l .users)) (length (l .agents)) (length (l .points))) 1 0 _ (parts .0) .0) in
-      let state = when-then (badMonth (s .month) (l .line .month)) 3 0 _ (parts .1) in
-      let third = month-after (s .month) (l .line .month) (state .0) in
+      let first = counts s _ _ _ (when-then (badCounts s (length (l .users)) (length (l .agents)) (length (l .points))) 1 0 _ (parts .0) .0) in
+      let state = state-passed s (l .line) (parts .1) in
       let lines = lines-passed l (parts .2) in
       let last = sums s l (parts .3) in
       record {
-        users = first .users;
-        agents = first .agents;
-        some-users = omega (arith, first .users, first .users-between);
-        few-users = omega (arith, first .users, first .users-between);
-        some-agents = omega (arith, first .agents, first .agents-between);
-        few-agents = omega (arith, first .agents, first .agents-between);
-        few-points = first .points;
+        users = first .same-users;
+        agents = first .same-agents;
+        some-users = omega (arith, first .same-users, first .users-between);
+        few-users = omega (arith, first .same-users, first .users-between);
+        some-agents = omega (arith, first .same-agents, first .agents-between);
+        few-agents = omega (arith, first .same-agents, first .agents-between);
+        few-points = first .few-points;
         last-month = first .last-month;
-        month = third .0;
-        later = third .1;
-        credits = λ j h. outside-false _ _ _ (when-accepted _ 4 (suc j) (each-from-1 creditTest (s .credits) (pos 0) (state .1) j h));
+        month = state .month;
+        later = state .later;
+        credits = state .credits;
         ons = lines .ons;
         agent = lines .agent;
         user = lines .user;

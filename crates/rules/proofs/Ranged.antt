@@ -6,14 +6,13 @@ use mathlib.Core.Path.{_≡_, sym, _∙_}
 use mathlib.Core.List.{[]}
 use lib.ListN.{length, getD}
 use lib.IntN.{pos}
-use Rattle.ints.specs.Range.{Within, outside-false}
-use Rattle.rules.specs.Verdict.{accepted, eachLine}
+use Rattle.ints.specs.Range.{Within}
 use Rattle.rules.specs.Lines.{Lines, agentOf, userOf, pointOf}
 use Rattle.rules.specs.State.{State}
-use Rattle.rules.specs.Refusals.{Lengths, creditTest, lineTests}
-use Rattle.rules.proofs.Tests.{when-accepted, each-from-1}
-use Rattle.rules.proofs.Fits.{Amount, Possible, AgentFits, UserFits, PointFits}
-use Rattle.rules.proofs.Passed.{Passed, lines-passed}
+use Rattle.rules.specs.Tested.{Tested}
+use Rattle.rules.specs.Ranges.{Amount}
+use Rattle.rules.proofs.Fits.{Possible, AgentFits, UserFits, PointFits}
+use Rattle.rules.proofs.Passed.{Passed, counts, state-passed, lines-passed}
 
 pub record Ranged (s : State) (l : Lines) : Type 0 where
   pub few-users : length (l .users) ≤ 512
@@ -28,26 +27,19 @@ pub record Ranged (s : State) (l : Lines) : Type 0 where
   pub user : (j : ℕ) → j < length (l .users) → UserFits (suc j) (getD (l .users) j (userOf []))
   pub point : (m : ℕ) → m < length (l .points) → PointFits (getD (l .points) m (pointOf []))
 
--- from the tests on held credits and lines
-pub ranged :
-    (s : State) (l : Lines)
-    → length (l .users) ≤ 512
-    → length (l .agents) ≤ 256
-    → length (l .points) ≤ 1024
-    → Possible (l .line .month)
-    → length (s .credits) ≡ length (l .users)
-    → eachLine creditTest 1 (s .credits) ≡ accepted
-    → lineTests l ≡ accepted
-    → Ranged s l
-ranged s l us gs ps m w d e =
-    let lines = lines-passed l e in
+-- from the tests
+pub ranged : {s : State} {l : Lines} → Tested s l → Ranged s l
+ranged {s} {l} t =
+    let first = counts s _ _ _ (t .counts) in
+    let state = state-passed s (l .line) (t .state) in
+    let lines = lines-passed l (t .lines) in
     record {
-      few-users = us;
-      few-agents = gs;
-      few-points = ps;
-      month = m;
-      count = w;
-      held = λ j h. outside-false _ _ _ (when-accepted _ 4 (suc j) (each-from-1 creditTest (s .credits) (pos 0) d j h));
+      few-users = first .users-between .1;
+      few-agents = first .agents-between .1;
+      few-points = first .few-points;
+      month = state .month;
+      count = t .held;
+      held = state .credits;
       ons = lines .ons;
       agent = lines .agent;
       user = lines .user;
