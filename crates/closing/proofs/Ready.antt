@@ -1,6 +1,7 @@
 -- An accepted closing may write: its tests have shown all that writing the month asks.
 use Prim.Native.Nat.{ℕ, _+_, _*_, _≤_}
 use native.Mathlib.Omega.{arith}
+use native.Mathlib.Nat.{mul-le-mul}
 use mathlib.Core.Path.{_≡_, refl, sym, ap, ap₂, _∙_}
 use mathlib.Core.List.{List}
 use lib.IntN.{ℤ}
@@ -48,6 +49,12 @@ module _ (g : Ledger) (held cells : List ℤ) (work : List ℕ) (line : MonthLin
 
     pub cells-reach : (length agents + 1) * length users ≤ length cells
     cells-reach = rw cell-count (room .cells)
+
+    pub cells-few : (length agents + 1) * length users ≤ 257 * 512
+    cells-few =
+        let m : length agents + 1 ≤ 257 = omega (arith, agent-count, p .few-agents) in
+        let n : length users ≤ 512 = omega (arith, user-count, p .few-users) in
+        mul-le-mul m n
 
     credit-count : length (take (length users) held) ≡ length users
     credit-count = length-take-le (length users) held held-reach
