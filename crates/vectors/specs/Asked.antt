@@ -20,10 +20,11 @@ use Rattle.rules.specs.Verdict.{Verdict, accepted, refused, eachLine}
 use Rattle.rules.specs.Lists.{eachFrom, sideBySide}
 use Rattle.rules.specs.Calendar.{monthOfYear, impossibleMonth, cycleMonth}
 use Rattle.rules.specs.Lines.{Lines, monthLines, pointOf, kindOf, badAgent, badUser, badPoint, unfitPoint}
-use Rattle.rules.specs.Charges.{halfUp, orZero, useCharge, allowance, excess, overrun, ofUser, overruns, EUSTs, VMEs, pvTotal, CPVs, ns, VDs, newCredits}
-use Rattle.rules.specs.Credits.{VMPA, VMST, ownCredit, ownCredits, SMSE, VMANTs, VCs}
-use Rattle.rules.specs.Refusals.{Lengths, badCounts, shortSlices, badMonth, lineTests, sumTests, refusal, openingRefusal}
-use Rattle.rules.specs.Calls.{ifAccepted, emptyLedger, stateOf}
+use Rattle.rules.specs.State.{State}
+use Rattle.rules.specs.Charges.{halfUp, orZero, useCharge, allowance, excess, overrun, ofUser, EUSTs, overrunSums, VMEs, pvTotal, CPVs, ns, VDs, newCredits}
+use Rattle.rules.specs.Credits.{VMPA, VMST, ownCredit, ownCredits, SMSEFrom, SMSE, VMANTsFrom, VMANTs, agentVCsFrom, VCsFrom, VCs}
+use Rattle.rules.specs.Refusals.{badCounts, shortSlices, badMonth, countTests, stateTests, linesBeforePoints, lineTests, sumTests, refusal, openingRefusal}
+use Rattle.rules.specs.Calls.{emptyLedger, stateOf}
 
 abbrev pub minus : ℕ → ℤ
 minus n = negℤ (pos n)
@@ -38,12 +39,16 @@ pub record Opened : Type 0 where
   pub verdict : Verdict
   pub ledger : Ledger
 
+abbrev ledgerBy : Verdict → Ledger → Ledger
+ledgerBy accepted g = g
+ledgerBy (refused n p) g = emptyLedger
+
 unfoldable pub opening : ℕ → ℕ → ℕ → Opened
 unfolding openingRefusal
 opening users agents held =
     record {
       verdict = openingRefusal users agents held;
-      ledger = ifAccepted (openingRefusal users agents held) (record { users = users; agents = agents; month = pos 0 }) emptyLedger;
+      ledger = ledgerBy (openingRefusal users agents held) (record { users = users; agents = agents; month = pos 0 });
     }
 
 -- closings.jsonl: the ledger, the held slice, the lengths of the cells and work slices, the month's lines by their values
@@ -59,7 +64,7 @@ pub record Closing : Type 0 where
   pub points : List (List ℤ)
 
 abbrev pub linesOf : Closing → Lines
-linesOf c = monthLines (c .month) (c .ons) (c .agents) (c .users) (map pointOf (c .points))
+linesOf c = monthLines (record { month = c .month; ons = c .ons }) (c .agents) (c .users) (map pointOf (c .points))
 
 -- every amount of an accepted month
 pub record Amounts : Type 0 where
@@ -80,22 +85,22 @@ pub record Amounts : Type 0 where
   -- by payee, ONS last
   pub vc : List ℤ
 
-unfoldable pub amounts : List ℤ → Lines → Amounts
-unfolding floor sumℤ runningShare partsFrom part eachFrom sideBySide monthOfYear cycleMonth halfUp orZero useCharge allowance excess overrun ofUser EUSTs VMEs pvTotal CPVs ns VDs newCredits VMPA VMST ownCredit ownCredits SMSE VMANTs VCs
-amounts credits l =
+unfoldable pub amounts : State → Lines → Amounts
+unfolding floor sumℤ runningShare partsFrom part eachFrom sideBySide monthOfYear cycleMonth halfUp orZero useCharge allowance excess overrun ofUser EUSTs overrunSums VMEs pvTotal CPVs ns VDs newCredits VMPA VMST ownCredit ownCredits SMSEFrom VMANTsFrom agentVCsFrom VCsFrom
+amounts s l =
     record {
       eust = EUSTs l;
-      overrun = eachFrom 1 (overruns (l .points)) (l .users);
+      overrun = overrunSums l;
       vme = VMEs l;
       cpv = CPVs l;
-      n = ns credits l;
-      vd = VDs credits l;
-      held = newCredits credits l;
+      n = ns s l;
+      vd = VDs s l;
+      held = newCredits s l;
       vmst = map VMST (l .agents);
-      vmpa = map (VMPA (cycleMonth (l .month))) (l .agents);
-      smse = SMSE credits l;
-      vmant = VMANTs credits l;
-      vc = VCs credits l;
+      vmpa = map (VMPA (cycleMonth (l .line .month))) (l .agents);
+      smse = SMSE s l;
+      vmant = VMANTs s l;
+      vc = VCs s l;
     }
 
 -- every amount, or the refusal's number and place
@@ -108,10 +113,10 @@ closed accepted a = closes a
 closed (refused n p) a = comes-back n p
 
 unfoldable pub closing : Closing → Closed
-unfolding amounts refusal badCounts shortSlices badMonth lineTests sumTests eachLine outside impossibleMonth kindOf badAgent badUser badPoint unfitPoint
+unfolding amounts refusal countTests stateTests badCounts shortSlices badMonth linesBeforePoints lineTests sumTests eachLine outside impossibleMonth kindOf badAgent badUser badPoint unfitPoint
 closing c =
     let s = stateOf (c .ledger) (c .held) in
-    closed (refusal s (record { held = length (c .held); cells = c .cells; work = c .work }) (linesOf c)) (amounts (s .credits) (linesOf c))
+    closed (refusal s (shortSlices s (record { held = length (c .held); cells = c .cells; work = c .work })) (linesOf c)) (amounts s (linesOf c))
 
 -- readings.jsonl: the text, the position, the capacities of the slices for agents, users and points; reading's answer, and the file
 -- check's on the whole text
