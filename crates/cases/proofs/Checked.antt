@@ -19,17 +19,17 @@ use Rattle.rules.specs.Verdict.{eachLine}
 use Rattle.rules.specs.Lists.{eachFrom, sideBySide}
 use Rattle.rules.specs.Calendar.{monthOfYear, impossibleMonth, cycleMonth}
 use Rattle.rules.specs.Lines.{kindOf, badAgent, badUser, badPoint, unfitPoint}
-use Rattle.rules.specs.Charges.{halfUp, orZero, useCharge, allowance, excess, overrun, ofUser, EUSTs, VMEs, pvTotal, CPVs, ns, VDs, newCredits}
-use Rattle.rules.specs.Credits.{VMPA, VMST, ownCredit, ownCredits, SMSE, VMANTs, VCs}
+use Rattle.rules.specs.Charges.{halfUp, orZero, useCharge, allowance, excess, overrun, ofUser, EUSTs, overrunSums, VMEs, pvTotal, CPVs, ns, VDs, newCredits}
+use Rattle.rules.specs.Credits.{VMPA, VMST, ownCredit, ownCredits, SMSEFrom, VMANTsFrom, agentVCsFrom, VCsFrom}
 use Rattle.rules.specs.Table.{Cell, rounded-down, rounded-up}
-use Rattle.rules.specs.Refusals.{badCounts, shortSlices, badMonth, lineTests, sumTests, refusal}
+use Rattle.rules.specs.Refusals.{badCounts, shortSlices, badMonth, countTests, stateTests, linesBeforePoints, lineTests, sumTests, refusal}
 use Rattle.rules.specs.Tally.{after, verdicts}
 use Rattle.cases.specs.Inputs.{these}
 use Rattle.cases.specs.ByHand.{A, B, C, D, E, F, G, H, I, J, All, byHand}
 use Rattle.cases.proofs.Tables.{table-of}
 
 a : A
-unfolding reading scanAt scan readBlocks readLines readLine readValue readDigits format more line inValue enter step refusal badCounts shortSlices badMonth lineTests sumTests eachLine outside impossibleMonth monthOfYear kindOf badAgent badUser badPoint unfitPoint floor sumℤ Σ< eachFrom sideBySide halfUp orZero useCharge allowance excess overrun ofUser EUSTs VMEs pvTotal CPVs ns VDs newCredits runningShare partsFrom part cycleMonth VMPA VMST ownCredit ownCredits SMSE VMANTs VCs
+unfolding reading scanAt scan readBlocks readLines readLine readValue readDigits format more line inValue enter step refusal badCounts shortSlices badMonth countTests stateTests linesBeforePoints lineTests sumTests eachLine outside impossibleMonth monthOfYear kindOf badAgent badUser badPoint unfitPoint floor sumℤ Σ< eachFrom sideBySide halfUp orZero useCharge allowance excess overrun ofUser EUSTs overrunSums VMEs pvTotal CPVs ns VDs newCredits runningShare partsFrom part cycleMonth VMPA VMST ownCredit ownCredits SMSEFrom VMANTsFrom agentVCsFrom VCsFrom
 a =
     record {
       read-whole = refl;
@@ -106,7 +106,7 @@ unfolding VMPA cycleMonth monthOfYear floor
 i = refl
 
 j : J
-unfolding after verdicts refusal badCounts shortSlices badMonth lineTests sumTests eachLine outside impossibleMonth monthOfYear kindOf badAgent badUser badPoint unfitPoint floor sumℤ eachFrom sideBySide halfUp orZero useCharge allowance excess overrun ofUser EUSTs VMEs pvTotal CPVs ns VDs newCredits
+unfolding after verdicts refusal badCounts shortSlices badMonth countTests stateTests linesBeforePoints lineTests sumTests eachLine outside impossibleMonth monthOfYear kindOf badAgent badUser badPoint unfitPoint floor sumℤ eachFrom sideBySide halfUp orZero useCharge allowance excess overrun ofUser EUSTs overrunSums VMEs pvTotal CPVs ns VDs newCredits
 j = record { closed = refl; n = refl; debit = refl; held = refl; charges = refl; debit-then = refl; held-then = refl }
 
 pub checked-by-hand : All byHand

@@ -11,11 +11,11 @@ use Rattle.format.specs.Reading.{reading, accepted as read}
 use Rattle.rules.specs.Verdict.{accepted}
 use Rattle.rules.specs.Calendar.{cycleMonth}
 use Rattle.rules.specs.Lines.{consumer}
+use Rattle.rules.specs.State.{State}
 use Rattle.rules.specs.Charges.{EUSTs, VMEs, CPVs, ns, VDs, newCredits, useCharge, overrun}
 use Rattle.rules.specs.Credits.{VMPA, VMST, SMSE, VMANTs, VCs}
 use Rattle.rules.specs.Table.{Table}
-use Rattle.rules.specs.Refusals.{refusal}
-use Rattle.rules.specs.Tally.{opened, after, verdicts}
+use Rattle.rules.specs.Tally.{opened, judged, after, verdicts}
 use Rattle.cases.specs.Inputs.{these, minus, text, file, july, enough, column, peak, VMPAin, j1, j2}
 
 -- every statement of a list
@@ -23,15 +23,19 @@ abbrev pub All : List (Type 0) → Type 0
 All [] = Unit {0}
 All (s ∷ ss) = s × All ss
 
+-- two users with these credits; the amounts of a month look at nothing else of a state
+abbrev holding : List ℤ → State
+holding credits = record { users = 2; agents = 2; month = pos 0; credits = credits }
+
 -- no credit held
-abbrev none : List ℤ
-none = these (0 ∷ 0 ∷ [])
+abbrev none : State
+none = holding (these (0 ∷ 0 ∷ []))
 
 -- a) the file above
 pub record A : Type 0 where
   -- read whole, and closed on a new ledger
   pub read-whole : reading (slices 2 2 2) (bytes text) 0 ≡ read file 184
-  pub closed : refusal (opened 2 2) (enough 2 2) july ≡ accepted
+  pub closed : judged (opened 2 2) (record { lines = july; lengths = enough 2 2 }) ≡ accepted
   -- charges
   pub EUST : EUSTs july ≡ these (400 ∷ 1600 ∷ [])
   pub VME : VMEs july ≡ these (400 ∷ 1600 ∷ [])
@@ -40,7 +44,7 @@ pub record A : Type 0 where
   pub held : newCredits none july ≡ these (0 ∷ 0 ∷ [])
   -- credits
   pub VMSTs : map VMST (july .agents) ≡ these (1000 ∷ 1970 ∷ [])
-  pub VMPAs : map (VMPA (cycleMonth (july .month))) (july .agents) ≡ these (0 ∷ 2 ∷ [])
+  pub VMPAs : map (VMPA (cycleMonth (july .line .month))) (july .agents) ≡ these (0 ∷ 2 ∷ [])
   pub balance : SMSE none july ≡ minus 1106
   pub VMANT : VMANTs none july ≡ minus 369 ∷ minus 737 ∷ []
   pub VC : VCs none july ≡ these (635 ∷ 1235 ∷ 100 ∷ [])
@@ -104,7 +108,7 @@ pub record J : Type 0 where
   pub debit : VDs none (j1 .lines) ≡ these (0 ∷ 100 ∷ [])
   pub held : after (opened 2 1) (j1 ∷ []) .credits ≡ these (50 ∷ 0 ∷ [])
   pub charges : VMEs (j2 .lines) ≡ these (80 ∷ 100 ∷ [])
-  pub debit-then : VDs (these (50 ∷ 0 ∷ [])) (j2 .lines) ≡ these (30 ∷ 100 ∷ [])
+  pub debit-then : VDs (holding (these (50 ∷ 0 ∷ []))) (j2 .lines) ≡ these (30 ∷ 100 ∷ [])
   pub held-then : after (opened 2 1) (j1 ∷ j2 ∷ []) .credits ≡ these (0 ∷ 0 ∷ [])
 
 -- THE CASES

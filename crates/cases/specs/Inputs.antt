@@ -21,7 +21,7 @@ minus n = negℤ (pos n)
 
 -- the lines of a file's values
 abbrev pub linesOf : File → Lines
-linesOf f = monthLines (f .month) (f .ons) (f .agents) (f .users) (map pointOf (f .points))
+linesOf f = monthLines (record { month = f .month; ons = f .ons }) (f .agents) (f .users) (map pointOf (f .points))
 
 -- slices just long enough for so many users and agents
 abbrev pub enough : ℕ → ℕ → Lengths
@@ -66,8 +66,7 @@ abbrev pub month : ℕ → ℤ → List Point → Fed
 month m ret points =
     record {
       lines = record {
-        month = pos m;
-        ons = pos 0;
+        line = record { month = pos m; ons = pos 0 };
         agents = agentOf (these (1 ∷ 1000 ∷ 0 ∷ 0 ∷ 0 ∷ 0 ∷ 0 ∷ [])) ∷ [];
         users = userOf (pos 1 ∷ pos 2 ∷ ret ∷ []) ∷ userOf (these (2 ∷ 2 ∷ 100 ∷ [])) ∷ [];
         points = points;

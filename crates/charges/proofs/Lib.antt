@@ -1,7 +1,5 @@
 -- What follows from the definitions of specs/: `Scanned` is what a whole scan comes to, `Amounts` that a month's amounts are those of
--- `rules`, `Ready` that a closing can show all that they ask for,
--- `SumTests` refusals 8 to 10 in the order in which the code comes to them.
+-- `rules`, `Ready` that a closing can show all that they ask for.
 pub mod Scanned
 pub mod Amounts
 pub mod Ready
-pub mod SumTests

@@ -6,42 +6,89 @@ use mathlib.Core.List.{List, _++_, map}
 use lib.IntN.{ℤ}
 use lib.ListN.{length, take, length-append, length-map}
 use lib.Seq.{take-at}
+use Rattle.ints.specs.Bridge.{za}
+use Rattle.ints.specs.Bounds.{word-wide, word-nonneg, words-small}
+use Rattle.rules.specs.declared.MonthLine.{MonthLine}
+use Rattle.rules.specs.Verdict.{Verdict}
 use Rattle.rules.specs.Lines.{Lines, agentOf}
+use Rattle.rules.specs.State.{State}
 use Rattle.rules.specs.Charges.{VDs, newCredits}
-use Rattle.rules.specs.Credits.{VCs}
+use Rattle.rules.specs.Credits.{VCsFrom, VCs}
 use Rattle.rules.specs.Table.{Table}
 use Rattle.rules.proofs.Sizes.{length-VDs, length-newCredits, length-VCs}
+use Rattle.rules.proofs.Passed.{Passed, passed}
+use Rattle.rules.proofs.Bounds.{bounds}
+use Rattle.rules.proofs.MonthTotals.{balanced}
 use Rattle.charges.specs.declared.month.Bills.{Bills}
-use Rattle.credits.specs.Payable.{Payable, VCsFrom, VCs-from}
+use Rattle.credits.specs.Payable.{Payable}
+use Rattle.credits.proofs.Tested.{payable-passed}
 use Rattle.cells.specs.Finish.{Fillable}
 use Rattle.closing.specs.Written.{Writable, Written}
 
-module _ {bills : Bills} {month ons : ℤ} {agents : List (List ℤ)} {held cells : List ℤ} {work : List ℕ} {l : Lines} (w : Writable bills month ons agents held cells work l) where
+-- the table of a month that breaks no limit can be filled
+fillable-passed : (s : State) (l : Lines) → length (s .credits) ≡ s .users → Passed s l → Fillable (VCs s l) (VDs s l)
+fillable-passed s l w p =
+    let b = bounds s l w p in
+    let t = balanced s l w p in
+    let payees = length-VCs s l in
+    let users = length-VDs s l (w ∙ sym (p .users)) in
+    record {
+      payees = omega (arith, payees, p .agents, p .few-agents);
+      users = omega (arith, users, p .users, p .few-users);
+      credits = words-small (record { at = λ i h. word-wide 100000000000000000 100000000000000000 (b .payees .VC i (omega (arith, payees))) tt tt });
+      debits = record { above = λ j h. word-nonneg (b .charges .VD j (omega (arith, users))) };
+      some = let d = t .some-debit in omega za;
+      most = let d = b .charges .VD-total in omega za;
+      equal = t .credits-are-debits;
+    }
+
+module _ {bills : Bills} {line : MonthLine} {agents : List (List ℤ)} {held cells : List ℤ} {work : List ℕ} {st : State} {short : Verdict} {l : Lines} (w : Writable bills line agents held cells work st short l) where
+  p : Passed st l
+  p = passed st short l (w .accepts)
+
+  credit-count : length (st .credits) ≡ length (l .users)
+  credit-count = w .one-each ∙ sym (p .users)
+
+  held-is : length held ≡ length (l .users)
+  held-is = w .held-count ∙ sym (p .users)
+
+  fillable : Fillable (VCs st l) (VDs st l)
+  fillable = fillable-passed st l (w .one-each) p
+
+  pub few-users : length held ≤ 512
+  few-users = omega (arith, w .held-count, p .few-users)
+
+  agent-count : length agents ≡ length (l .agents)
+  agent-count = sym (length-map agents agentOf) ∙ ap length (w .agents-are)
+
+  pub few-agents : length agents ≤ 256
+  few-agents = omega (arith, agent-count, p .agents, p .few-agents)
+
   -- ---- the credits of the payees
-  pub payable : Payable month ons (bills .total) (map agentOf agents)
-  payable = rw (w .month-is, w .ons-is, w .total, w .agents-are) (w .payable)
+  pub payable : Payable (bills .total) line (map agentOf agents)
+  payable = rw (w .line-is, w .bills-are .total, w .agents-are) (payable-passed st l (w .one-each) p)
 
-  pub credits-are : VCsFrom month ons (bills .total) (map agentOf agents) ≡ VCs held l
-  credits-are = rw (w .month-is, w .ons-is, w .total, w .agents-are) (sym (VCs-from held l))
+  pub credits-are : VCsFrom (bills .total) line (map agentOf agents) ≡ VCs st l
+  credits-are = rw (w .line-is, w .bills-are .total, w .agents-are)
 
-  pub payee-count : length (VCs held l) ≡ length agents + 1
-  payee-count = omega (arith, length-VCs held l, ap length (w .agents-are), length-map agents agentOf)
+  pub payee-count : length (VCs st l) ≡ length agents + 1
+  payee-count = omega (arith, length-VCs st l, agent-count)
 
   -- ---- the debits and the new held credits of the users
-  debit-count : length (VDs held l) ≡ length held
-  debit-count = length-VDs held l (w .held-count) ∙ sym (w .held-count)
+  debit-count : length (VDs st l) ≡ length held
+  debit-count = length-VDs st l credit-count ∙ sym held-is
 
-  new-count : length (newCredits held l) ≡ length held
-  new-count = length-newCredits held l (w .held-count) ∙ sym (w .held-count)
+  new-count : length (newCredits st l) ≡ length held
+  new-count = length-newCredits st l credit-count ∙ sym held-is
 
-  pub first-debits : take (length held) (bills .debits) ≡ VDs held l
-  first-debits = rw (w .debits) (take-at (VDs held l) _ (length held) debit-count)
+  pub first-debits : take (length held) (bills .debits) ≡ VDs st l
+  first-debits = rw (w .bills-are .debits) (take-at (VDs st l) _ (length held) debit-count)
 
-  pub first-credits : take (length held) (bills .credits) ≡ newCredits held l
-  first-credits = rw (w .credits) (take-at (newCredits held l) _ (length held) new-count)
+  pub first-credits : take (length held) (bills .credits) ≡ newCredits st l
+  first-credits = rw (w .bills-are .credits) (take-at (newCredits st l) _ (length held) new-count)
 
   -- ---- the table
-  module _ {vc : List ℤ} (e : vc ≡ VCs held l) where
+  module _ {vc : List ℤ} (e : vc ≡ VCs st l) where
     -- the credits stand first in their array
     pub first-payees : (rest : List ℤ) → take (length agents + 1) (vc ++ rest) ≡ vc
     first-payees rest = take-at vc rest (length agents + 1) (ap length e ∙ payee-count)
@@ -49,12 +96,12 @@ module _ {bills : Bills} {month ons : ℤ} {agents : List (List ℤ)} {held cell
     pub payees-reach : (rest : List ℤ) → length agents + 1 ≤ length (vc ++ rest)
     payees-reach rest = simp length-append (omega (arith, ap length e, payee-count))
 
-    module _ {vd : List ℤ} (f : vd ≡ VDs held l) where
+    module _ {vd : List ℤ} (f : vd ≡ VDs st l) where
       size : length vc * length vd ≡ (length agents + 1) * length held
       size = ap₂ _*_ (ap length e ∙ payee-count) (ap length f ∙ debit-count)
 
       pub asked : Fillable vc vd × (length cells ≡ length vc * length vd) × (length vc * length vd ≤ length work)
-      asked = (rw (e, f) (w .fillable), w .cells-count ∙ sym size, rw size (w .work-count))
+      asked = (rw (e, f) fillable, w .cells-count ∙ sym size, rw size (w .work-count))
 
-      pub written : {held′ cells′ : List ℤ} {work′ : List ℕ} → Table vc vd cells′ → held′ ≡ newCredits held l → length work′ ≡ length work → Written held l work held′ cells′ work′
+      pub written : {held′ cells′ : List ℤ} {work′ : List ℕ} → Table vc vd cells′ → held′ ≡ newCredits st l → length work′ ≡ length work → Written st l work held′ cells′ work′
       written {cells′ = cells′} t h s = record { credits = h; table = rw (sym e, sym f) t; scratch = s }

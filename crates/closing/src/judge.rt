@@ -1,17 +1,23 @@
 // Why a month comes back (paper 01, "Why a month comes back"), or every user's amounts. Nothing that was lent is written.
+ghost use Prim.Native.Nat.{_≤_};
 ghost use mathlib.Core.Path.{_≡_};
-ghost use mathlib.Core.List.{List};
+ghost use mathlib.Core.List.{List, map};
 ghost use lib.ListN.{length};
+ghost use Rattle.rules.specs.declared.MonthLine.{MonthLine};
 ghost use Rattle.rules.specs.declared.Point.{Point};
-ghost use Rattle.rules.specs.declared.Answer.the-variants.{Refused};
+ghost use Rattle.rules.specs.declared.Answer.the-variants.{Accepted, Refused};
+ghost use Rattle.rules.specs.Verdict.{Verdict, _then_, eachLine};
+ghost use Rattle.rules.specs.Lines.{userOf, monthLines};
+ghost use Rattle.rules.specs.State.{State};
+ghost use Rattle.rules.specs.Refusals.{pointTest, stateTests, lineTests};
 ghost use Rattle.rules.specs.Calls.{stateOf, verdictOf};
-ghost use Rattle.charges.specs.Scan.{ScanFinds};
-ghost use Rattle.closing.specs.Judged.{beforeLines, throughLines, ScannedTo, Billable, Weighs, Judges};
+ghost use Rattle.closing.specs.Judged.{Begun, Weighable, Weighs, Judges};
 use charges::month::Bills;
 use charges::scan::Sums;
 use rules::AgentLine;
 use rules::Answer;
 use rules::Ledger;
+use rules::MonthLine;
 use rules::UserLine;
 
 // What is found of a closing: its verdict and, of an accepted month, every user's debit and new held credit.
@@ -34,75 +40,58 @@ fn refused(number: u64, place: u64) -> Judged
     }
 }
 
-// 1 to 4: counts, slices, month, held credits.
-fn before_lines(
-    ledger: Ledger,
-    held: &[i64],
-    month: i64,
-    agents: u64,
-    users: u64,
-    points: u64,
-    cells: u64,
-    work: u64,
-) -> Answer
-    ensures { λ r. ⌜ verdictOf r
-        ≡ beforeLines (stateOf ledger (now (held .entry))) (record { held = length (now (held .entry)); cells = cells; work = work }) month users agents points ⌝ }
+// 3 and 4: the month, then the held credits.
+fn state_verdict(ledger: Ledger, held: &[i64], line: MonthLine) -> Answer
+    requires { ⌜ ledger .users ≤ length (now held) ⌝ }
+    ensures { λ r. ⌜ verdictOf r ≡ stateTests (stateOf ledger (now (held .entry))) line ⌝ }
 {
-    if limits::counts::bad_counts(ledger, users, agents, points) {
-        return Answer::Refused(1, 0);
+    if limits::months::bad_month(ledger.month, line.month) {
+        return Answer::Refused(3, 0);
     }
-    let short = limits::counts::short_slices(
-        ledger.users,
-        ledger.agents,
-        held.len() as u64,
-        cells,
-        work,
-    );
-    match short {
+    let n = ledger.users as usize;
+    limits::lines::credits_verdict(&held[..n])
+}
+
+// 5 to 7, of points whose first refusal their scan has found.
+fn lines_verdict(
+    line: MonthLine,
+    agents: &[AgentLine],
+    users: &[UserLine],
+    scanned: Answer,
+) -> Answer
+    ensures { λ r. ⌜ ((points : List Point) → verdictOf scanned ≡ eachLine (pointTest (map userOf (now (users .entry)))) 1 points
+        → verdictOf r ≡ lineTests (monthLines line (now (agents .entry)) (now (users .entry)) points)) ⌝ }
+{
+    let first = limits::lines::lines_before_points(line, agents, users);
+    match first {
         Answer::Refused(number, place) => Answer::Refused(number, place),
-        Answer::Accepted => {
-            if limits::months::bad_month(ledger.month, month) {
-                return Answer::Refused(3, 0);
-            }
-            let n = ledger.users as usize;
-            limits::lines::credits_verdict(&held[..n])
-        }
+        Answer::Accepted => scanned,
     }
 }
 
-// 1 to 7: these, then the lines, the points' refusal being what their scan has found.
+// 1 to 7, those after `first` where it refuses nothing.
 fn through_lines(
+    first: Answer,
     ledger: Ledger,
     held: &[i64],
-    month: i64,
-    ons: i64,
+    line: MonthLine,
     agents: &[AgentLine],
     users: &[UserLine],
-    points: u64,
     scanned: Answer,
-    cells: u64,
-    work: u64,
 ) -> Answer
-    ensures { λ r. ⌜ ((ps : List Point) → ScannedTo (now (users .entry)) points scanned ps
-        → verdictOf r ≡ throughLines (stateOf ledger (now (held .entry))) (record { held = length (now (held .entry)); cells = cells; work = work }) month ons (now (agents .entry)) (now (users .entry)) ps) ⌝ }
+    requires { ⌜ (first ≡ Accepted → ledger .users ≤ length (now held)) ⌝ }
+    ensures { λ r. ⌜ ((points : List Point) → (first ≡ Accepted → verdictOf scanned ≡ eachLine (pointTest (map userOf (now (users .entry)))) 1 points)
+        → verdictOf r ≡ (verdictOf first
+        then stateTests (stateOf ledger (now (held .entry))) line
+        then lineTests (monthLines line (now (agents .entry)) (now (users .entry)) points))) ⌝ }
 {
-    let first = before_lines(
-        ledger,
-        held,
-        month,
-        agents.len() as u64,
-        users.len() as u64,
-        points,
-        cells,
-        work,
-    );
     match first {
         Answer::Refused(number, place) => Answer::Refused(number, place),
         Answer::Accepted => {
-            let second = limits::lines::lines_before_points(ons, agents, users);
+            let second = state_verdict(ledger, held, line);
             match second {
                 Answer::Refused(number, place) => Answer::Refused(number, place),
-                Answer::Accepted => scanned,
+                Answer::Accepted => lines_verdict(line, agents, users, scanned),
             }
         }
     }
@@ -110,7 +99,7 @@ fn through_lines(
 
 // 8, 9 and 10 of a month whose lines have passed, and its amounts. `held` has one entry for each user.
 fn weighed(held: &[i64], agents: &[AgentLine], users: &[UserLine], s: Sums) -> Judged
-    requires { ⌜ Billable (now held) (now agents) (now users) s ⌝ }
+    requires { ⌜ ((st : State) × (line : MonthLine) × (points : List Point) × Weighable line (now held) (now agents) (now users) s st points) ⌝ }
     ensures { λ r. ⌜ Weighs (now (held .entry)) (now (agents .entry)) (now (users .entry)) s r ⌝ }
 {
     let n = users.len();
@@ -137,41 +126,27 @@ fn weighed(held: &[i64], agents: &[AgentLine], users: &[UserLine], s: Sums) -> J
     }
 }
 
-// 1 to 10, and the amounts of a month that breaks no limit. `points` is the count of the points, `s` what the scan of them has found;
-// `cells` and `work` are the lengths of these slices.
+// 1 to 10, and the amounts of a month that breaks no limit. `first` is the verdict of 1 and 2, which look at the counts and at what a
+// call is lent; `s` is what the scan of the points has found.
 pub fn judge(
+    first: Answer,
     ledger: Ledger,
     held: &[i64],
-    month: i64,
-    ons: i64,
+    line: MonthLine,
     agents: &[AgentLine],
     users: &[UserLine],
-    points: u64,
     s: Sums,
-    cells: u64,
-    work: u64,
 ) -> Judged
-    requires { ⌜ ((ps : List Point) × ScanFinds (now users) points s ps) ⌝ }
-    ensures { λ r. ⌜ ((ps : List Point) → ScanFinds (now (users .entry)) points s ps
-        → Judges ledger (now (held .entry)) (record { held = length (now (held .entry)); cells = cells; work = work }) month ons (now (agents .entry)) (now (users .entry)) ps r) ⌝ }
+    requires { ⌜ ((points : List Point) × (short : Verdict) × Begun ledger (now held) (monthLines line (now agents) (now users) points) s first short) ⌝ }
+    ensures { λ r. ⌜ ((points : List Point) (short : Verdict) → Begun ledger (now (held .entry)) (monthLines line (now (agents .entry)) (now (users .entry)) points) s first short
+        → Judges ledger (now (held .entry)) short (monthLines line (now (agents .entry)) (now (users .entry)) points) r) ⌝ }
 {
-    let verdict = s.verdict;
-    let first = through_lines(
-        ledger,
-        held,
-        month,
-        ons,
-        agents,
-        users,
-        points,
-        verdict,
-        cells,
-        work,
-    );
-    match first {
+    let scanned = s.verdict;
+    let verdict = through_lines(first, ledger, held, line, agents, users, scanned);
+    match verdict {
         Answer::Refused(number, place) => refused(number, place),
         Answer::Accepted => {
-            let n = users.len();
+            let n = ledger.users as usize;
             weighed(&held[..n], agents, users, s)
         }
     }

@@ -1,12 +1,13 @@
 // What an accepted month writes: the held credits and the table of cells.
 ghost use mathlib.Core.Path.{_≡_};
-ghost use mathlib.Core.List.{List};
-ghost use lib.IntN.{ℤ};
 ghost use lib.ListN.{length};
+ghost use Rattle.rules.specs.Verdict.{Verdict};
 ghost use Rattle.rules.specs.Lines.{Lines};
+ghost use Rattle.rules.specs.State.{State};
 ghost use Rattle.closing.specs.Written.{Writable, Written};
 use charges::month::Bills;
 use rules::AgentLine;
+use rules::MonthLine;
 
 // Copies every entry.
 fn copy(from: &[i64], to: &mut [i64])
@@ -25,16 +26,15 @@ fn copy(from: &[i64], to: &mut [i64])
 // cells take the odd cents is free within paper 01, and so is what the work slice holds afterwards.
 pub fn write(
     bills: Bills,
-    month: i64,
-    ons: i64,
+    line: MonthLine,
     agents: &[AgentLine],
     held: &mut [i64],
     cells: &mut [i64],
     work: &mut [u64],
 )
-    requires { ⌜ ((l : Lines) × Writable bills month ons (now agents) (now held) (now cells) (now work) l) ⌝ }
-    ensures { λ _. ⌜ ((l : Lines) → Writable bills month ons (now (agents .entry)) (now (held .entry)) (now (cells .entry)) (now (work .entry)) l
-        → Written (now (held .entry)) l (now (work .entry)) (now (held .exit)) (now (cells .exit)) (now (work .exit))) ⌝ }
+    requires { ⌜ ((st : State) × (short : Verdict) × (l : Lines) × Writable bills line (now agents) (now held) (now cells) (now work) st short l) ⌝ }
+    ensures { λ _. ⌜ ((st : State) (short : Verdict) (l : Lines) → Writable bills line (now (agents .entry)) (now (held .entry)) (now (cells .entry)) (now (work .entry)) st short l
+        → Written st l (now (work .entry)) (now (held .exit)) (now (cells .exit)) (now (work .exit))) ⌝ }
 {
     let n = held.len();
     let m = agents.len() + 1;
@@ -42,7 +42,7 @@ pub fn write(
     let debits = bills.debits;
     let credits = bills.credits;
     let mut vc = [0i64; 257];
-    credits::payees::vcs(month, ons, total, agents, &mut vc[..m]);
+    credits::payees::vcs(total, line, agents, &mut vc[..m]);
     cells::fill(&vc[..m], &debits[..n], cells, work);
     copy(&credits[..n], held);
 }

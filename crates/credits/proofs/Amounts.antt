@@ -12,18 +12,19 @@ use Rattle.ints.specs.Bridge.{za}
 use Rattle.ints.specs.Bounds.{Word, word, word-abs, word-wide, word-sub, Words, words-nonneg, word-total, word-sum}
 use Rattle.ints.specs.Sums.{sumℤ, Small}
 use Rattle.ints.specs.Adding.{Summable}
-use Rattle.share.specs.Running.{runningShare}
 use Rattle.share.specs.Filling.{Fillable}
 use Rattle.share.specs.Laws.{parts-small}
 use Rattle.rules.specs.Calendar.{impossibleMonth, cycleMonth}
 use Rattle.rules.specs.Lines.{Agent}
-use Rattle.rules.specs.Credits.{ownCredit}
+use Rattle.rules.specs.declared.MonthLine.{MonthLine}
+use Rattle.rules.specs.Charges.{pvs}
+use Rattle.rules.specs.Credits.{ownCredit, ownCredits, SMSEFrom, pbs, VMANTsFrom}
 use Rattle.rules.proofs.Fits.{possible}
 use Rattle.rules.proofs.Cycle.{cycle-within}
 use Rattle.rules.proofs.BoundsAgent.{agent-bounds, amount}
 use Rattle.rules.proofs.BoundsSums.{column}
 use Rattle.credits.specs.Columns.{AgentLines}
-use Rattle.credits.specs.Payable.{Payable, balanceOf}
+use Rattle.credits.specs.Payable.{Payable}
 
 small-of : {L H : ℕ} (K : ℕ) {xs : List ℤ} → Words L H xs → T (leb L K) → T (leb H K) → Small K xs
 small-of K w l h = record { small = λ i k. word-abs (word-wide K K (w .at i k) l h) }
@@ -32,44 +33,46 @@ module _ {agents : List Agent} (l : AgentLines agents) where
   few : (f : Agent → ℤ) → length (map f agents) ≤ 256
   few f = rw length-map (l .few)
 
-  pb-words : Words 0 100000000000 (map (λ (a : Agent). a .pb) agents)
+  pb-words : Words 0 100000000000 (pbs agents)
   pb-words = column (λ (a : Agent). a .pb) agents (λ i h. amount (l .line i h .pb))
 
   summable : {L H : ℕ} (f : Agent → ℤ) → Words L H (map f agents) → T (leb L 400000000000) → T (leb H 400000000000) → Summable (map f agents)
   summable f w l h = let n = few f in record { largest = 400000000000; small = small-of 400000000000 w l h; room = omega arith }
 
-  pub pb-summable : Summable (map (λ (a : Agent). a .pb) agents)
+  pub pb-summable : Summable (pbs agents)
   pb-summable = summable _ pb-words tt tt
 
-  pb-total : Word 0 25600000000000 (sumℤ (map (λ (a : Agent). a .pb) agents))
+  pb-total : Word 0 25600000000000 (sumℤ (pbs agents))
   pb-total = word-sum 100000000000 256 _ pb-words (few _) tt
 
-  pub pv-summable : Summable (map (λ (a : Agent). a .pv) agents)
+  pub pv-summable : Summable (pvs agents)
   pv-summable = summable _ (column (λ (a : Agent). a .pv) agents (λ i h. amount (l .line i h .pv))) tt tt
 
-  module _ (month : ℤ) (p : impossibleMonth month ≡ false) where
-    own-words : Words 400000000000 400000000000 (map (ownCredit month) agents)
-    unfolding ownCredit
-    own-words = column (ownCredit month) agents (λ i h. agent-bounds (cycleMonth month) (cycle-within month (possible month p)) (l .line i h) .own)
+  module _ (line : MonthLine) (p : impossibleMonth (line .month) ≡ false) where
+    own-words : Words 400000000000 400000000000 (ownCredits line agents)
+    unfolding ownCredits ownCredit
+    own-words = column (ownCredit (line .month)) agents (λ i h. agent-bounds (cycleMonth (line .month)) (cycle-within (line .month) (possible (line .month) p)) (l .line i h) .own)
 
-    pub own-small : Small 400000000000 (map (ownCredit month) agents)
+    pub own-small : Small 400000000000 (ownCredits line agents)
     own-small = small-of 400000000000 own-words tt tt
 
-    pub own-summable : Summable (map (ownCredit month) agents)
+    pub own-summable : Summable (ownCredits line agents)
+    unfolding ownCredits
     own-summable = summable _ own-words tt tt
 
-    pub own-total : Word 102400000000000 102400000000000 (sumℤ (map (ownCredit month) agents))
+    pub own-total : Word 102400000000000 102400000000000 (sumℤ (ownCredits line agents))
+    unfolding ownCredits
     own-total = word-total 400000000000 256 _ own-words (few _) tt
 
-module _ {month ons debits : ℤ} {agents : List Agent} (p : Payable month ons debits agents) where
+module _ {debits : ℤ} {line : MonthLine} {agents : List Agent} (p : Payable debits line agents) where
   owed : Word 0 1689600000000000 debits
   owed = let w = p .owed in word (omega za) (omega za) tt
 
-  balance : Word 102500000000000 1792000000000000 (balanceOf month ons debits agents)
-  unfolding balanceOf
-  balance = word-sub (word-sub owed (own-total (p .lines) month (p .possible)) tt) (amount (p .fee)) tt
+  balance : Word 102500000000000 1792000000000000 (SMSEFrom debits line agents)
+  unfolding SMSEFrom
+  balance = word-sub (word-sub owed (own-total (p .lines) line (p .possible)) tt) (amount (p .fee)) tt
 
-  pub fillable : {parts : List ℤ} → length parts ≡ length agents → Fillable (balanceOf month ons debits agents) (sumℤ (map (λ (a : Agent). a .pb) agents)) (map (λ (a : Agent). a .pb) agents) parts
+  pub fillable : {parts : List ℤ} → length parts ≡ length agents → Fillable (SMSEFrom debits line agents) (sumℤ (pbs agents)) (pbs agents) parts
   fillable e = record {
     amount = le-trans (word-abs (word-wide 1792000000000000 1792000000000000 balance tt tt)) (omega arith);
     weights = words-nonneg (pb-words (p .lines));
@@ -79,7 +82,8 @@ module _ {month ons debits : ℤ} {agents : List Agent} (p : Payable month ons d
     long = e ∙ sym (rw length-map refl);
   }
 
-  pub parts-within : Small 1792000000000000 (runningShare (balanceOf month ons debits agents) (map (λ (a : Agent). a .pb) agents))
+  pub parts-within : Small 1792000000000000 (VMANTsFrom debits line agents)
+  unfolding VMANTsFrom
   parts-within =
-      let s = parts-small (balanceOf month ons debits agents) _ (words-nonneg (pb-words (p .lines))) (p .weighed) in
+      let s = parts-small (SMSEFrom debits line agents) _ (words-nonneg (pb-words (p .lines))) (p .weighed) in
       record { small = λ i h. le-trans (s .small i h) (word-abs (word-wide 1792000000000000 1792000000000000 balance tt tt)) }

@@ -3,7 +3,7 @@ use Prim.Native.Nat.{suc, _≤_}
 use mathlib.Core.Path.{_≡_}
 use mathlib.Core.Logic.{_≢_}
 use mathlib.Core.List.{List, []}
-use lib.IntN.{ℤ, pos}
+use lib.IntN.{pos}
 use lib.ListN.{length}
 use lib.Signed.{_<ℤ_}
 use Rattle.ints.specs.Bridge.{za}
@@ -11,12 +11,13 @@ use Rattle.ints.specs.Sums.{sumℤ}
 use Rattle.rules.specs.Verdict.{accepted, eachLine}
 use Rattle.rules.specs.Lines.{Agent, Lines, agentOf}
 use Rattle.rules.specs.Charges.{EUSTs, pvTotal, VDs}
-use Rattle.rules.specs.Refusals.{State, Lengths, agentTest}
+use Rattle.rules.specs.State.{State}
+use Rattle.rules.specs.Credits.{pbs}
+use Rattle.rules.specs.Refusals.{agentTest}
 use Rattle.rules.proofs.Tests.{when-accepted, each-from-1}
 use Rattle.rules.proofs.Fits.{not-impossible, agent-fits, amounts-fit}
 use Rattle.rules.proofs.Passed.{Passed}
 use Rattle.rules.proofs.Ranged.{Ranged, ranged-passed}
-use Rattle.rules.proofs.ByLine.{pbs}
 use Rattle.rules.proofs.BoundsCharges.{charge-bounds}
 use Rattle.rules.proofs.BoundsCredits.{credit-bounds}
 use Rattle.credits.specs.Columns.{AgentLines}
@@ -29,15 +30,15 @@ accepted-lines agents h e = record {
   line = λ i k. amounts-fit (agent-fits (suc i) _ (when-accepted _ 5 (suc i) (each-from-1 agentTest agents (agentOf []) e i k)));
 }
 
-pub agent-lines : {credits : List ℤ} {l : Lines} → Ranged credits l → AgentLines (l .agents)
+pub agent-lines : {s : State} {l : Lines} → Ranged s l → AgentLines (l .agents)
 agent-lines r = record { few = r .few-agents; line = λ i h. amounts-fit (r .agent i h) }
 
 pub payable :
-    {credits : List ℤ} {l : Lines}
-    → Ranged credits l
+    {s : State} {l : Lines}
+    → Ranged s l
     → (pos 0 <ℤ pvTotal l → sumℤ (EUSTs l) ≢ pos 0)
-    → sumℤ (pbs l) ≢ pos 0
-    → Payable (l .month) (l .ons) (sumℤ (VDs credits l)) (l .agents)
+    → sumℤ (pbs (l .agents)) ≢ pos 0
+    → Payable (sumℤ (VDs s l)) (l .line) (l .agents)
 payable r nine eight =
     let w = charge-bounds r nine .VD-total in
     record {
@@ -49,5 +50,5 @@ payable r nine eight =
     }
 
 -- a month that breaks no limit
-pub payable-passed : (s : State) (n : Lengths) (l : Lines) → length (s .credits) ≡ s .users → Passed s n l → Payable (l .month) (l .ons) (sumℤ (VDs (s .credits) l)) (l .agents)
-payable-passed s n l w p = payable (ranged-passed s n l w p) (p .EUST-total) (p .pb-total)
+pub payable-passed : (s : State) (l : Lines) → length (s .credits) ≡ s .users → Passed s l → Payable (sumℤ (VDs s l)) (l .line) (l .agents)
+payable-passed s l w p = payable (ranged-passed s l w p) (p .EUST-total) (p .pb-total)

@@ -6,7 +6,9 @@ use lib.IntN.{ℤ, pos}
 use lib.ListN.{length, getD, length-map}
 use Rattle.rules.specs.Lists.{getD-map}
 use Rattle.rules.specs.Lines.{Agent, agentOf}
-use Rattle.rules.proofs.Fits.{AmountsFit}
+use Rattle.rules.specs.Charges.{pvs}
+use Rattle.rules.specs.Credits.{pbs}
+use Rattle.rules.specs.Ranges.{AmountsFit}
 
 -- at most 256 agents, with every amount in its range
 pub record AgentLines (agents : List Agent) : Type 0 where
@@ -21,8 +23,8 @@ line-at lines a i h = rw (getD-map agentOf lines i [] (agentOf []) h) at (a .lin
 abbrev pub column : ℕ → List (List ℤ) → List ℤ
 column k lines = map (λ (l : List ℤ). getD l k (pos 0)) lines
 
-pub pb-column : (lines : List (List ℤ)) → column 1 lines ≡ map (λ (a : Agent). a .pb) (map agentOf lines)
+pub pb-column : (lines : List (List ℤ)) → column 1 lines ≡ pbs (map agentOf lines)
 pb-column lines = sym (map-map (λ (a : Agent). a .pb) agentOf lines)
 
-pub pv-column : (lines : List (List ℤ)) → column 2 lines ≡ map (λ (a : Agent). a .pv) (map agentOf lines)
+pub pv-column : (lines : List (List ℤ)) → column 2 lines ≡ pvs (map agentOf lines)
 pv-column lines = sym (map-map (λ (a : Agent). a .pv) agentOf lines)

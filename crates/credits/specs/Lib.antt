@@ -1,4 +1,3 @@
--- What contracts cite: `Columns` of agent lines that are in their ranges; `Payable`, what the credits of a month ask of it, and the
--- credits as they follow from the total of the debits alone.
+-- What contracts cite: `Columns` of agent lines that are in their ranges; `Payable`, what the credits of a month ask of it.
 pub mod Columns
 pub mod Payable

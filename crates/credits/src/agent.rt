@@ -7,7 +7,7 @@ ghost use Rattle.ints.specs.Range.{Within};
 ghost use Rattle.rules.specs.Calendar.{impossibleMonth, cycleMonth};
 ghost use Rattle.rules.specs.Lines.{Agent, agentOf};
 ghost use Rattle.rules.specs.Credits.{VMPA, VMST, ownCredit};
-ghost use Rattle.rules.proofs.Fits.{Correction, AmountsFit};
+ghost use Rattle.rules.specs.Ranges.{Correction, AmountsFit};
 use rules::AgentLine;
 use rules::columns;
 

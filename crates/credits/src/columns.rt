@@ -5,7 +5,9 @@ ghost use mathlib.Core.List.{map};
 ghost use lib.ListN.{length};
 ghost use Rattle.ints.specs.Adding.{Summable};
 ghost use Rattle.ints.specs.Sums.{sumℤ};
-ghost use Rattle.rules.specs.Lines.{Agent, agentOf};
+ghost use Rattle.rules.specs.Lines.{agentOf};
+ghost use Rattle.rules.specs.Charges.{pvs};
+ghost use Rattle.rules.specs.Credits.{pbs};
 ghost use Rattle.credits.specs.Columns.{AgentLines, column};
 use rules::AgentLine;
 use rules::columns;
@@ -28,7 +30,7 @@ fn column_total(agents: &[AgentLine], k: usize) -> i64
 // The sum of all pb, of refusal 8.
 pub fn pb_total(agents: &[AgentLine]) -> i64
     requires { ⌜ AgentLines (map agentOf (now agents)) ⌝ }
-    ensures { λ r. ⌜ r ≡ sumℤ (map (λ (a : Agent). a .pb) (map agentOf (now (agents .entry)))) ⌝ }
+    ensures { λ r. ⌜ r ≡ sumℤ (pbs (map agentOf (now (agents .entry)))) ⌝ }
 {
     column_total(agents, columns::PB)
 }
@@ -36,7 +38,7 @@ pub fn pb_total(agents: &[AgentLine]) -> i64
 // The sum of all pv, of refusal 9 and the compensation.
 pub fn pv_total(agents: &[AgentLine]) -> i64
     requires { ⌜ AgentLines (map agentOf (now agents)) ⌝ }
-    ensures { λ r. ⌜ r ≡ sumℤ (map (λ (a : Agent). a .pv) (map agentOf (now (agents .entry)))) ⌝ }
+    ensures { λ r. ⌜ r ≡ sumℤ (pvs (map agentOf (now (agents .entry)))) ⌝ }
 {
     column_total(agents, columns::PV)
 }
@@ -58,7 +60,7 @@ fn column(agents: &[AgentLine], k: usize, out: &mut [i64])
 // Writes all pb, the weights of the balance.
 pub fn pbs(agents: &[AgentLine], out: &mut [i64])
     requires { ⌜ length (now out) ≡ length (now agents) ⌝ }
-    ensures { λ _. ⌜ now (out .exit) ≡ map (λ (a : Agent). a .pb) (map agentOf (now (agents .entry))) ⌝ }
+    ensures { λ _. ⌜ now (out .exit) ≡ pbs (map agentOf (now (agents .entry))) ⌝ }
 {
     column(agents, columns::PB, out);
 }

@@ -10,24 +10,25 @@ ghost use Rattle.ints.specs.Range.{Within};
 ghost use Rattle.ints.specs.Sums.{Small};
 ghost use Rattle.rules.specs.Calendar.{impossibleMonth};
 ghost use Rattle.rules.specs.Lines.{agentOf};
-ghost use Rattle.rules.specs.Credits.{ownCredit};
+ghost use Rattle.rules.specs.Credits.{ownCredits, VCsFrom};
 ghost use Rattle.rules.specs.Lists.{sideBySide};
-ghost use Rattle.rules.proofs.Fits.{Amount};
+ghost use Rattle.rules.specs.Ranges.{Amount};
 ghost use Rattle.credits.specs.Columns.{AgentLines};
-ghost use Rattle.credits.specs.Payable.{Payable, AgentCredits, VCsFrom};
+ghost use Rattle.credits.specs.Payable.{Payable, AgentCredits};
 use rules::AgentLine;
+use rules::MonthLine;
 
 // Writes VMST + VMPA + ret of each agent.
-pub fn own_credits(month: i64, agents: &[AgentLine], out: &mut [i64])
-    requires { ⌜ (impossibleMonth month ≡ false)
+pub fn own_credits(line: MonthLine, agents: &[AgentLine], out: &mut [i64])
+    requires { ⌜ (impossibleMonth (line .month) ≡ false)
         × AgentLines (map agentOf (now agents))
         × (length (now out) ≡ length (now agents)) ⌝ }
-    ensures { λ _. ⌜ now (out .exit) ≡ map (ownCredit month) (map agentOf (now (agents .entry))) ⌝ }
+    ensures { λ _. ⌜ now (out .exit) ≡ ownCredits line (map agentOf (now (agents .entry))) ⌝ }
 {
     let n = agents.len();
     let mut i = 0;
     while i < n {
-        out[i] = crate::agent::own_credit(month, agents[i]);
+        out[i] = crate::agent::own_credit(line.month, agents[i]);
         i += 1;
     }
 }
@@ -57,22 +58,21 @@ fn add_each(parts: &[i64], out: &mut [i64])
 
 // Writes the agents' credits: their own, and their parts of the balance over pb, which it writes too. Answers the balance.
 pub fn agent_credits(
-    month: i64,
-    ons: i64,
     debits: i64,
+    line: MonthLine,
     agents: &[AgentLine],
     pb: &mut [i64],
     vmant: &mut [i64],
     vc: &mut [i64],
 ) -> i64
-    requires { ⌜ Payable month ons debits (map agentOf (now agents))
+    requires { ⌜ Payable debits line (map agentOf (now agents))
         × (length (now pb) ≡ length (now agents))
         × (length (now vmant) ≡ length (now agents))
         × (length (now vc) ≡ length (now agents)) ⌝ }
-    ensures { λ r. ⌜ AgentCredits month ons debits (map agentOf (now (agents .entry))) r (now (pb .exit)) (now (vmant .exit)) (now (vc .exit)) ⌝ }
+    ensures { λ r. ⌜ AgentCredits debits line (map agentOf (now (agents .entry))) r (now (pb .exit)) (now (vmant .exit)) (now (vc .exit)) ⌝ }
 {
-    own_credits(month, agents, vc);
-    let balance = smse(debits, ints::total(vc), ons);
+    own_credits(line, agents, vc);
+    let balance = smse(debits, ints::total(vc), line.ons);
     crate::columns::pbs(agents, pb);
     share::fill(balance, crate::columns::pb_total(agents), pb, vmant);
     add_each(vmant, vc);
@@ -80,21 +80,21 @@ pub fn agent_credits(
 }
 
 // Writes the credit of every payee: the agents in order, and then ONS, with ons.
-pub fn vcs(month: i64, ons: i64, debits: i64, agents: &[AgentLine], vc: &mut [i64])
-    requires { ⌜ Payable month ons debits (map agentOf (now agents)) × (length (now vc) ≡ length (now agents) + 1) ⌝ }
-    ensures { λ _. ⌜ now (vc .exit) ≡ VCsFrom month ons debits (map agentOf (now (agents .entry))) ⌝ }
+pub fn vcs(debits: i64, line: MonthLine, agents: &[AgentLine], vc: &mut [i64])
+    requires { ⌜ Payable debits line (map agentOf (now agents)) × (length (now vc) ≡ length (now agents) + 1) ⌝ }
+    ensures { λ _. ⌜ now (vc .exit) ≡ VCsFrom debits line (map agentOf (now (agents .entry))) ⌝ }
 {
     let n = agents.len();
     let mut pb = [0i64; 256];
     let mut vmant = [0i64; 256];
     agent_credits(
-        month,
-        ons,
         debits,
+        line,
         agents,
         &mut pb[..n],
         &mut vmant[..n],
         &mut vc[..n],
     );
+    let ons = line.ons;
     vc[n] = ons;
 }

@@ -65,7 +65,7 @@ plain c =
     record {
       ledger = c .args .0;
       held = now (c .args .1 .0);
-      lines = monthLines (a .0) (a .1 .0) (now (a .1 .1 .0)) (now (a .1 .1 .1 .0)) (now (a .1 .1 .1 .1 .0));
+      lines = monthLines (record { month = a .0; ons = a .1 .0 }) (now (a .1 .1 .0)) (now (a .1 .1 .1 .0)) (now (a .1 .1 .1 .1 .0));
       cells = now (a .1 .1 .1 .1 .1 .0);
       work = now (a .1 .1 .1 .1 .1 .1 .0);
       outcome = c .result;

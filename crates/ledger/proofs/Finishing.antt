@@ -4,30 +4,51 @@ use Prim.Native.Nat.{ℕ, _+_, _*_, _≤_}
 use mathlib.Core.Path.{_≡_, sym, ap, _∙_}
 use mathlib.Core.List.{List, _++_}
 use lib.IntN.{ℤ}
-use lib.ListN.{length, take, drop}
+use lib.ListN.{length, take, drop, length-map}
 use lib.Seq.{length-take-le}
+use Rattle.rules.specs.declared.Answer.{Answer}
 use Rattle.rules.specs.declared.Answer.the-variants.{Accepted, Refused}
 use Rattle.rules.specs.declared.Ledger.{Ledger}
+use Rattle.rules.specs.declared.MonthLine.{MonthLine}
 use Rattle.rules.specs.declared.Point.{Point}
-use Rattle.rules.specs.Verdict.{accepted}
-use Rattle.rules.specs.Lines.{Lines, monthLines}
-use Rattle.rules.specs.Calls.{verdictOf, lengthsOf, closingRefusal}
+use Rattle.rules.specs.Verdict.{Verdict, accepted}
+use Rattle.rules.specs.Lines.{Lines, agentOf, userOf, monthLines}
+use Rattle.rules.specs.Refusals.{shortSlices, countTests}
+use Rattle.rules.specs.Calls.{verdictOf, stateOf, lengthsOf, closingRefusal, Closes}
+use Rattle.rules.proofs.Passed.{slices}
 use Rattle.rules.proofs.Promise.{closes-refused, closes-accepted}
+use Rattle.charges.specs.declared.scan.Sums.{Sums}
+use Rattle.charges.specs.Scan.{ScanFinds}
 use Rattle.closing.specs.declared.judge.Judged.{Judged}
-use Rattle.closing.specs.Judged.{Judges}
+use Rattle.closing.specs.Judged.{Begun, Judges}
 use Rattle.closing.specs.Written.{Writable, Written}
-use Rattle.closing.proofs.Ready.{user-count, cell-count, held-reach, cells-reach, writable}
-use Rattle.ledger.specs.Promise.{Closed}
+use Rattle.closing.proofs.Ready.{user-count, cell-count, held-reach, cells-reach, cells-few, writable}
+
+-- 2, of the slices that a closing is lent
+abbrev pub shortOf : Ledger → List ℤ → List ℤ → List ℕ → Verdict
+shortOf g held cells work = shortSlices (stateOf g held) (lengthsOf held cells work)
+
+-- with 1 and 2 tested and the points scanned, the closing may be judged
+pub begun :
+    (g : Ledger) (held cells : List ℤ) (work : List ℕ) (line : MonthLine) (agents users : List (List ℤ)) {points : List Point} {count : ℕ} {s : Sums} {first : Answer}
+    → ScanFinds users count s points
+    → verdictOf first ≡ countTests (stateOf g held) (shortOf g held cells work) (length users) (length agents) count
+    → Begun g held (monthLines line agents users points) s first (shortOf g held cells work)
+begun g held cells work line agents users f told = record {
+  verdict = rw (length-map users userOf, length-map agents agentOf, sym (f .counted)) told;
+  long-held = λ e. slices (stateOf g held) (lengthsOf held cells work) e .held;
+  sums = f .sums;
+}
 
 -- what was found of this closing
-pub record Found (g : Ledger) (held cells : List ℤ) (work : List ℕ) (month ons : ℤ) (agents users : List (List ℤ)) (points : List Point) (r : Judged) : Type 0 where
-  pub judged : Judges g held (lengthsOf held cells work) month ons agents users points r
+pub record Found (g : Ledger) (held cells : List ℤ) (work : List ℕ) (line : MonthLine) (agents users : List (List ℤ)) (points : List Point) (r : Judged) : Type 0 where
+  pub judged : Judges g held (shortOf g held cells work) (monthLines line agents users points) r
 
-module _ {g : Ledger} {held cells : List ℤ} {work : List ℕ} {month ons : ℤ} {agents users : List (List ℤ)} {points : List Point} {r : Judged} (f : Found g held cells work month ons agents users points r) where
+module _ {g : Ledger} {held cells : List ℤ} {work : List ℕ} {line : MonthLine} {agents users : List (List ℤ)} {points : List Point} {r : Judged} (f : Found g held cells work line agents users points r) where
   abbrev l : Lines
-  l = monthLines month ons agents users points
+  l = monthLines line agents users points
 
-  pub refused-closes : {n p : ℕ} → r .verdict ≡ Refused n p → Closed g held l cells work (record { answer = Refused n p; ledger = g }) held cells work
+  pub refused-closes : {n p : ℕ} → r .verdict ≡ Refused n p → Closes g held l cells work (record { answer = Refused n p; ledger = g }) held cells work
   refused-closes {n} {p} e = closes-refused g held l cells work n p (sym (f .judged .verdict) ∙ ap verdictOf e)
 
   module _ (e : r .verdict ≡ Accepted) where
@@ -36,24 +57,27 @@ module _ {g : Ledger} {held cells : List ℤ} {work : List ℕ} {month ons : ℤ
     passed = sym (f .judged .verdict) ∙ ap verdictOf e
 
     pub held-enough : length users ≤ length held
-    held-enough = held-reach g held cells work month ons agents users points passed
+    held-enough = held-reach g held cells work line agents users points passed
 
     pub cells-enough : (length agents + 1) * length users ≤ length cells
-    cells-enough = cells-reach g held cells work month ons agents users points passed
+    cells-enough = cells-reach g held cells work line agents users points passed
 
-    pub may-write : Writable (r .bills) month ons agents (take (length users) held) (take ((length agents + 1) * length users) cells) work l
-    may-write = writable g held cells work month ons agents users points passed (r .bills) (f .judged .bills passed)
+    pub cells-small : (length agents + 1) * length users ≤ 257 * 512
+    cells-small = cells-few g held cells work line agents users points passed
+
+    pub may-write : Writable (r .bills) line agents (take (length users) held) (take ((length agents + 1) * length users) cells) work (stateOf g held) (shortOf g held cells work) l
+    may-write = writable g held cells work line agents users points passed (r .bills) (rw (length-map users userOf) at (f .judged .bills passed))
 
     pub accepted-closes :
         {held′ cells′ : List ℤ} {work′ : List ℕ}
-        → Written (take (length users) held) l work held′ cells′ work′
+        → Written (stateOf g held) l work held′ cells′ work′
         → length cells′ ≡ length (take ((length agents + 1) * length users) cells)
-        → Closed g held l cells work (record { answer = Accepted; ledger = record { users = g .users; agents = g .agents; month = month } })
+        → Closes g held l cells work (record { answer = Accepted; ledger = record { users = g .users; agents = g .agents; month = line .month } })
         (held′ ++ drop (length users) held)
         (cells′ ++ drop ((length agents + 1) * length users) cells)
         work′
     accepted-closes {held′} {cells′} {work′} w long =
-        let u = user-count g held cells work month ons agents users points passed in
-        let m = cell-count g held cells work month ons agents users points passed in
+        let u = user-count g held cells work line agents users points passed in
+        let m = cell-count g held cells work line agents users points passed in
         let n = long ∙ length-take-le _ cells cells-enough ∙ m in
-        rw (w .credits, m, u) (closes-accepted g held l cells work cells′ work′ passed (rw u at (w .table)) n (w .scratch))
+        rw (w .credits, m, u) (closes-accepted g held l cells work cells′ work′ passed (w .table) n (w .scratch))

@@ -30,11 +30,11 @@ use Rattle.ledger.proofs.Demand.{Called, Opened, heldAt, heldLeft, Chai
 
 -- an accepted month's debits are not negative, and they total its credits and more than 0
 tables : Tables
-tables s n l w e =
-    let p = passed s n l e in
-    let b = balanced s n l w p in
+tables s l w short e =
+    let p = passed s short l e in
+    let b = balanced s l w p in
     let t =
-    a-table-exists (VCs (s .credits) l) (VDs (s .credits) l) (record { above = bounds s n l w p .charges .VDs-nonneg .at }) (omega (za, b .some-debit)) (b .credits-are-debits) in
+    a-table-exists (VCs s l) (VDs s l) (record { above = bounds s l w p .charges .VDs-nonneg .at }) (omega (za, b .some-debit)) (b .credits-are-debits) in
     (t .cells, t .holds)
 
 -- what a caller picks for a closing, besides the ledger and the held credits that it has
@@ -61,7 +61,7 @@ picked c =
     }
 
 abbrev input : Month → Input
-input m = record { lines = monthLines (m .month) (m .ons) (m .agents) (m .users) (m .points); cells = m .cells; work = m .work }
+input m = record { lines = monthLines (record { month = m .month; ons = m .ons }) (m .agents) (m .users) (m .points); cells = m .cells; work = m .work }
 
 -- a reference to these values, wherever it points
 abbrev lent : {X : Type 0} → X → RefT X

@@ -1,2 +1,2 @@
--- `Promise` is what closing promises, for `finish` and `close` alike.
-pub mod Promise
+-- `Finished` is closing's promise once the points are scanned.
+pub mod Finished

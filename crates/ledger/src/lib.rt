@@ -6,13 +6,14 @@ ghost use lib.ListN.{length, replicate};
 ghost use Rattle.rules.specs.declared.Point.{Point};
 ghost use Rattle.rules.specs.Lines.{monthLines};
 ghost use Rattle.rules.specs.declared.Answer.the-variants.{Refused};
-ghost use Rattle.rules.specs.Calls.{emptyLedger, Opens};
+ghost use Rattle.rules.specs.Calls.{emptyLedger, Opens, Closes};
 ghost use Rattle.charges.specs.Scan.{ScanFinds};
-ghost use Rattle.ledger.specs.Promise.{Closed};
+ghost use Rattle.ledger.specs.Finished.{Finishes};
 use charges::scan::Sums;
 use rules::AgentLine;
 use rules::Answer;
 use rules::Ledger;
+use rules::MonthLine;
 use rules::Outcome;
 use rules::Point;
 use rules::UserLine;
@@ -69,8 +70,7 @@ pub fn open(users: u64, agents: u64, held: &mut [i64]) -> Outcome
 fn finish(
     ledger: Ledger,
     held: &mut [i64],
-    month: i64,
-    ons: i64,
+    line: MonthLine,
     agents: &[AgentLine],
     users: &[UserLine],
     n: usize,
@@ -79,21 +79,18 @@ fn finish(
     work: &mut [u64],
 ) -> Outcome
     requires { ⌜ ((points : List Point) × ScanFinds (now users) n s points) ⌝ }
-    ensures { λ r. ⌜ ((points : List Point) → ScanFinds (now (users .entry)) n s points
-        → Closed ledger (now (held .entry)) (monthLines month ons (now (agents .entry)) (now (users .entry)) points) (now (cells .entry)) (now (work .entry)) r (now (held .exit)) (now (cells .exit)) (now (work .exit))) ⌝ }
+    ensures { λ r. ⌜ Finishes ledger (now (held .entry)) line (now (agents .entry)) (now (users .entry)) n s (now (cells .entry)) (now (work .entry)) r (now (held .exit)) (now (cells .exit)) (now (work .exit)) ⌝ }
 {
-    let found = closing::judge::judge(
+    let first = limits::counts::closing_verdict(
         ledger,
-        held,
-        month,
-        ons,
-        agents,
-        users,
+        users.len() as u64,
+        agents.len() as u64,
         n as u64,
-        s,
+        held.len() as u64,
         cells.len() as u64,
         work.len() as u64,
     );
+    let found = closing::judge::judge(first, ledger, held, line, agents, users, s);
     let verdict = found.verdict;
     match verdict {
         Answer::Refused(number, place) => Outcome {
@@ -105,8 +102,7 @@ fn finish(
             let c = (agents.len() + 1) * u;
             closing::write::write(
                 found.bills,
-                month,
-                ons,
+                line,
                 agents,
                 &mut held[..u],
                 &mut cells[..c],
@@ -117,11 +113,31 @@ fn finish(
                 ledger: Ledger {
                     users: ledger.users,
                     agents: ledger.agents,
-                    month,
+                    month: line.month,
                 },
             }
         }
     }
+}
+
+// The same with the month line taken apart.
+fn settle(
+    ledger: Ledger,
+    held: &mut [i64],
+    month: i64,
+    ons: i64,
+    agents: &[AgentLine],
+    users: &[UserLine],
+    n: usize,
+    s: Sums,
+    cells: &mut [i64],
+    work: &mut [u64],
+) -> Outcome
+    requires { ⌜ ((points : List Point) × ScanFinds (now users) n s points) ⌝ }
+    ensures { λ r. ⌜ Finishes ledger (now (held .entry)) (record { month = month; ons = ons }) (now (agents .entry)) (now (users .entry)) n s (now (cells .entry)) (now (work .entry)) r (now (held .exit)) (now (cells .exit)) (now (work .exit)) ⌝ }
+{
+    let line = MonthLine { month, ons };
+    finish(ledger, held, line, agents, users, n, s, cells, work)
 }
 
 // Closes a month: refusals 1 to 10 with nothing changed, or the new held credits, the table of cells and the ledger with this month.
@@ -136,9 +152,9 @@ pub fn close(
     cells: &mut [i64],
     work: &mut [u64],
 ) -> Outcome
-    ensures { λ r. ⌜ Closed ledger (now (held .entry)) (monthLines month ons (now (agents .entry)) (now (users .entry)) (now (points .entry))) (now (cells .entry)) (now (work .entry)) r (now (held .exit)) (now (cells .exit)) (now (work .exit)) ⌝ }
+    ensures { λ r. ⌜ Closes ledger (now (held .entry)) (monthLines (record { month = month; ons = ons }) (now (agents .entry)) (now (users .entry)) (now (points .entry))) (now (cells .entry)) (now (work .entry)) r (now (held .exit)) (now (cells .exit)) (now (work .exit)) ⌝ }
 {
     let n = points.len();
     let s = records::scan(points, users);
-    finish(ledger, held, month, ons, agents, users, n, s, cells, work)
+    settle(ledger, held, month, ons, agents, users, n, s, cells, work)
 }

@@ -4,7 +4,7 @@ ghost use mathlib.Core.Bool.{_||_};
 ghost use mathlib.Core.List.{List};
 ghost use Prim.Native.Nat.{_≤_};
 ghost use lib.IntN.{ℤ};
-ghost use Rattle.rules.specs.Refusals.{badUsers, badAgents, badCounts, shortSlices};
+ghost use Rattle.rules.specs.Refusals.{badUsers, badAgents, badCounts, shortSlices, countTests};
 ghost use Rattle.rules.specs.Calls.{stateOf, verdictOf};
 use rules::Answer;
 use rules::Ledger;
@@ -44,4 +44,23 @@ pub fn short_slices(users: u64, agents: u64, held: u64, cells: u64, work: u64) -
         return Answer::Refused(2, 3);
     }
     Answer::Accepted
+}
+
+// 1 and 2 at a closing, of the counts of its lines and the lengths of its slices; the held credits play no part.
+pub fn closing_verdict(
+    ledger: Ledger,
+    users: u64,
+    agents: u64,
+    points: u64,
+    held: u64,
+    cells: u64,
+    work: u64,
+) -> Answer
+    ensures { λ r. ⌜ ((credits : List ℤ) → verdictOf r
+        ≡ countTests (stateOf ledger credits) (shortSlices (stateOf ledger credits) (record { held = held; cells = cells; work = work })) users agents points) ⌝ }
+{
+    if bad_counts(ledger, users, agents, points) {
+        return Answer::Refused(1, 0);
+    }
+    short_slices(ledger.users, ledger.agents, held, cells, work)
 }

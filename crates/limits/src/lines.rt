@@ -3,12 +3,13 @@ ghost use mathlib.Core.Path.{_≡_};
 ghost use mathlib.Core.List.{map};
 ghost use lib.IntN.{pos};
 ghost use Rattle.ints.specs.Range.{eqZ};
-ghost use Rattle.rules.specs.Verdict.{when, _then_, eachLine};
+ghost use Rattle.rules.specs.Verdict.{eachLine};
 ghost use Rattle.rules.specs.Lines.{agentOf, userOf, badAmount, badCorrection, badAgent, badUser};
-ghost use Rattle.rules.specs.Refusals.{creditTest, agentTest, userTest};
+ghost use Rattle.rules.specs.Refusals.{creditTest, agentTest, userTest, linesBeforePoints};
 ghost use Rattle.rules.specs.Calls.{verdictOf};
 use rules::AgentLine;
 use rules::Answer;
+use rules::MonthLine;
 use rules::UserLine;
 use rules::columns;
 
@@ -103,13 +104,10 @@ pub fn users_verdict(users: &[UserLine]) -> Answer
 }
 
 // 5 of the ons, agent and user lines, in this order.
-pub fn lines_before_points(ons: i64, agents: &[AgentLine], users: &[UserLine]) -> Answer
-    ensures { λ r. ⌜ verdictOf r
-        ≡ (when (badAmount ons) 5 0
-        then eachLine agentTest 1 (map agentOf (now (agents .entry)))
-        then eachLine userTest 1 (map userOf (now (users .entry)))) ⌝ }
+pub fn lines_before_points(line: MonthLine, agents: &[AgentLine], users: &[UserLine]) -> Answer
+    ensures { λ r. ⌜ verdictOf r ≡ linesBeforePoints line (map agentOf (now (agents .entry))) (map userOf (now (users .entry))) ⌝ }
 {
-    if bad_amount(ons) {
+    if bad_amount(line.ons) {
         return Answer::Refused(5, 0);
     }
     let first = agents_verdict(agents);

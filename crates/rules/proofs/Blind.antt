@@ -31,7 +31,7 @@ use-as-contracted vp vf p = refl
 -- the month with other verified powers at each point
 abbrev pub measuredAs : (Point → ℤ) → (Point → ℤ) → Lines → Lines
 measuredAs vp vf l =
-    record { month = l .month; ons = l .ons; agents = l .agents; users = l .users; points = map (λ (p : Point). verifiedAs (vp p) (vf p) p) (l .points) }
+    record { line = l .line; agents = l .agents; users = l .users; points = map (λ (p : Point). verifiedAs (vp p) (vf p) p) (l .points) }
 
 pub EUST-as-contracted : (vp vf : Point → ℤ) (ps : List Point) (k : ℕ) → EUST (map (λ (p : Point). verifiedAs (vp p) (vf p) p) ps) k ≡ EUST ps k
 unfolding ofUser

@@ -3,17 +3,17 @@
 -- list meets `Demand3`. Assumes nothing else.
 use Prim.Native.Nat.{ℕ}
 use mathlib.Core.Path.{_≡_, refl, sym, ap, _∙_}
-use mathlib.Core.List.{List, _++_}
+use mathlib.Core.List.{List}
 use lib.IntN.{ℤ, pos, _+ℤ_, +ℤ-idr}
-use lib.ListN.{length, drop, replicate, length-replicate, getD-replicate}
-use Rattle.rules.specs.declared.Ledger.{Ledger}
+use lib.ListN.{drop, replicate, length-replicate, getD-replicate}
+use lib.Seq.{take-at, drop-at}
 use Rattle.rules.specs.declared.Answer.the-variants.{Accepted}
 use Rattle.rules.specs.declared.Outcome.{Outcome}
-use Rattle.rules.specs.Verdict.{Verdict, accepted}
-use Rattle.rules.specs.Refusals.{openingRefusal}
-use Rattle.rules.specs.Calls.{verdictOf, ifAccepted, emptyLedger, Opens}
+use Rattle.rules.specs.State.{State}
+use Rattle.rules.specs.Calls.{verdictOf, Opens}
 use Rattle.rules.specs.Tally.{opened}
-use Rattle.rules.specs.Demand.{Call, Chain, AllPromised, billedToUser, Demand3}
+use Rattle.rules.specs.Demand.{Call, Chain, AllPromised, lastHeld, billedToUser, Demand3}
+use Rattle.rules.proofs.Promise.{opens-verdict}
 use Rattle.rules.proofs.Steps.{Agree}
 use Rattle.rules.proofs.Follow.{Follows, follows}
 
@@ -24,18 +24,16 @@ opening :
     → r .answer ≡ Accepted
     → Agree users agents (opened users agents) (r .ledger) held′ (drop users held)
 opening users agents held r held′ o e =
-    let v : openingRefusal users agents (length held) ≡ accepted = sym (o .verdict) ∙ ap verdictOf e in
-    let new : Ledger = record { users = users; agents = agents; month = pos 0 } in
-    let g : r .ledger ≡ new = o .ledger ∙ ap (λ (x : Verdict). ifAccepted x new emptyLedger) v in
-    record {
+    let d = o .where-accepted (sym (opens-verdict users agents held o) ∙ ap verdictOf e) in
+    let long = length-replicate users (pos 0) in
+    rw (d .outcome, d .credits)
+    (record {
       tally-users = refl;
       tally-agents = refl;
-      ledger-users = ap (λ (x : Ledger). x .users) g;
-      ledger-agents = ap (λ (x : Ledger). x .agents) g;
-      ledger-month = ap (λ (x : Ledger). x .month) g;
-      credits = o .credits ∙ ap (λ (x : Verdict). ifAccepted x (replicate users (pos 0) ++ drop users held) held) v;
-      width = length-replicate users (pos 0);
-    }
+      state = ap (λ (x : List ℤ). record { users = users; agents = agents; month = pos 0; credits = x }) (take-at (replicate users (pos 0)) (drop users held) users long);
+      beyond = drop-at (replicate users (pos 0)) (drop users held) users long;
+      width = long;
+    })
 
 pub demand-3 :
     (users agents : ℕ) (held : List ℤ) (r : Outcome) (held′ : List ℤ)
@@ -50,10 +48,9 @@ demand-3 users agents held r held′ o e cs h p =
     follows users agents (opened users agents) (r .ledger) held′ (drop users held) cs (opening users agents held r held′ o e) h p in
     record {
       answers = f .answers;
-      ledger-users = f .last .ledger-users;
-      ledger-agents = f .last .ledger-agents;
-      ledger-month = f .last .ledger-month;
-      held-credits = f .last .credits;
+      state = f .last .state;
+      beyond =
+          ap (λ (n : ℕ). drop n (lastHeld held′ cs)) (sym (ap (λ (x : State). x .users) (f .last .state) ∙ f .last .tally-users)) ∙ f .last .beyond;
       user-total = λ j l.
           sym (+ℤ-idr (billedToUser users agents j cs))
           ∙ ap (λ (x : ℤ). billedToUser users agents j cs +ℤ x) (sym (getD-replicate users j (pos 0) (pos 0) l))

@@ -4,7 +4,7 @@ use Prim.Native.Nat.{ℕ, _+_, _^_}
 use mathlib.Core.Path.{_≡_, refl}
 use mathlib.Core.List.{List, [], _∷_, _++_, map}
 use lib.IntN.{ℤ, pos, negℤ}
-use lib.ListN.{replicate}
+use lib.ListN.{getD, replicate}
 use Rattle.ints.specs.Floor.{floor}
 use Rattle.ints.specs.Range.{outside}
 use Rattle.ints.specs.Sums.{sumℤ}
@@ -14,9 +14,10 @@ use Rattle.rules.specs.Lists.{eachFrom, sideBySide}
 use Rattle.rules.specs.Calendar.{monthOfYear, impossibleMonth}
 use Rattle.rules.specs.declared.Point.{Point}
 use Rattle.rules.specs.Lines.{distributor, consumer, generator, Lines, agentOf, userOf, pointOf, kindOf, badAgent, badUser, badPoint, unfitPoint}
-use Rattle.rules.specs.Charges.{halfUp, orZero, useCharge, allowance, excess, overrun, ofUser, VME, EUSTs, VMEs, pvTotal, CPVs, ns, VDs}
+use Rattle.rules.specs.Charges.{halfUp, orZero, useCharge, allowance, excess, overrun, ofUser, EUSTs, overrunSums, VMEs, pvTotal, CPVs, ns, VDs}
 use Rattle.rules.specs.Credits.{VMST}
-use Rattle.rules.specs.Refusals.{Lengths, badCounts, shortSlices, badMonth, lineTests, sumTests, refusal, openingRefusal}
+use Rattle.rules.specs.State.{State}
+use Rattle.rules.specs.Refusals.{Lengths, badCounts, shortSlices, badMonth, countTests, stateTests, linesBeforePoints, lineTests, sumTests, refusal, openingRefusal}
 
 -- ---- small months
 abbrev Row : Type 0
@@ -24,7 +25,7 @@ Row = List ℤ
 
 abbrev month : ℤ → ℤ → List Row → List Row → List Row → Lines
 month yyyymm ons agents users points =
-    record { month = yyyymm; ons = ons; agents = map agentOf agents; users = map userOf users; points = map pointOf points }
+    record { line = record { month = yyyymm; ons = ons }; agents = map agentOf agents; users = map userOf users; points = map pointOf points }
 
 abbrev lines : List Row → List Row → List Row → Lines
 lines agents users points = month (pos 202407) (pos 100) agents users points
@@ -52,13 +53,16 @@ u2 = user (pos 2) (pos 2)
 abbrev p1 : Row
 p1 = point (pos 1) (pos 0) (pos 0)
 
+abbrev closingOf : State → Lengths → Lines → Verdict
+closingOf s n l = refusal s (shortSlices s n) l
+
 -- closing on a ledger of one user and one agent, or of two users and one agent, whose last month was 202406
 abbrev closing : ℤ → Lengths → Lines → Verdict
-closing credit lengths l = refusal (record { users = 1; agents = 1; month = pos 202406; credits = credit ∷ [] }) lengths l
+closing credit lengths l = closingOf (record { users = 1; agents = 1; month = pos 202406; credits = credit ∷ [] }) lengths l
 
 abbrev closing2 : ℕ → Lines → Verdict
 closing2 held l =
-    refusal (record { users = 2; agents = 1; month = pos 202406; credits = pos 0 ∷ pos 0 ∷ [] }) (record { held = held; cells = 4; work = 24 }) l
+    closingOf (record { users = 2; agents = 1; month = pos 202406; credits = pos 0 ∷ pos 0 ∷ [] }) (record { held = held; cells = 4; work = 24 }) l
 
 -- slices just long enough for one user and one agent
 abbrev room : Lengths
@@ -79,7 +83,7 @@ bySelf =
     ∷ (close (lines (a1 ∷ []) [] []), refused 1 0)
     ∷ (close (lines (a1 ∷ []) (u1 ∷ u2 ∷ []) (p1 ∷ [])), refused 1 0)
     ∷ (close (lines (a1 ∷ []) (u1 ∷ []) (replicate 1025 p1)), refused 1 0)
-    ∷ (refusal (record { users = 1; agents = 1; month = pos 202400; credits = pos 0 ∷ [] }) room (lines (a1 ∷ []) (u1 ∷ []) (p1 ∷ [])), refused 1 0)
+    ∷ (closingOf (record { users = 1; agents = 1; month = pos 202400; credits = pos 0 ∷ [] }) room (lines (a1 ∷ []) (u1 ∷ []) (p1 ∷ [])), refused 1 0)
     ∷ (openingRefusal 0 1 5, refused 1 0)
     ∷ (openingRefusal 513 1 513, refused 1 0)
     ∷ (openingRefusal 512 257 512, refused 1 0)
@@ -140,13 +144,16 @@ inOrder =
     ∷ []
 
 pub refusals : map (λ (c : Case). c .0) (bySelf ++ inOrder) ≡ map (λ (c : Case). c .1) (bySelf ++ inOrder)
-unfolding bySelf inOrder refusal openingRefusal badCounts shortSlices badMonth lineTests sumTests eachLine impossibleMonth monthOfYear outside badAgent badUser badPoint unfitPoint kindOf pvTotal EUSTs VMEs CPVs ns VDs eachFrom sideBySide ofUser useCharge overrun excess allowance orZero halfUp floor sumℤ runningShare partsFrom part
+unfolding bySelf inOrder refusal openingRefusal badCounts shortSlices badMonth countTests stateTests linesBeforePoints lineTests sumTests eachLine impossibleMonth monthOfYear outside badAgent badUser badPoint unfitPoint kindOf pvTotal EUSTs overrunSums VMEs CPVs ns VDs eachFrom sideBySide ofUser useCharge overrun excess allowance orZero halfUp floor sumℤ runningShare partsFrom part
 refusals = refl
 
 -- ---- amounts that the cases by hand leave out
 -- a point of 100 kW that verified vp, at a tariff of 1 real: overrun begins above 110, 105 and 101 percent
+abbrev measuredRow : ℤ → Row
+measuredRow vp = pos 1 ∷ pos 1000 ∷ pos 0 ∷ pos 0 ∷ pos 0 ∷ pos 100 ∷ pos 0 ∷ vp ∷ pos 0 ∷ []
+
 abbrev measured : ℤ → Point
-measured vp = pointOf (pos 1 ∷ pos 1000 ∷ pos 0 ∷ pos 0 ∷ pos 0 ∷ pos 100 ∷ pos 0 ∷ vp ∷ pos 0 ∷ [])
+measured vp = pointOf (measuredRow vp)
 
 unfoldable pub amounts : List (ℤ × ℤ)
 amounts =
@@ -157,11 +164,11 @@ amounts =
     ∷ (overrun generator (measured (pos 101)), pos 0)
     ∷ (overrun generator (measured (pos 102)), pos 300)
     -- VME adds the correction: use 10,000, overrun 300, ret −7
-    ∷ (VME (measured (pos 106) ∷ []) 1 (userOf (pos 1 ∷ consumer ∷ negℤ (pos 7) ∷ [])), pos 10293)
+    ∷ (getD (VMEs (lines [] ((pos 1 ∷ consumer ∷ negℤ (pos 7) ∷ []) ∷ []) (measuredRow (pos 106) ∷ []))) 0 (pos 0), pos 10293)
     -- VMST adds afs and takes pv and rfs: 1000 − 30 + 7 − 5
     ∷ (VMST (agentOf (pos 1 ∷ pos 1000 ∷ pos 30 ∷ pos 7 ∷ pos 5 ∷ pos 0 ∷ pos 0 ∷ [])), pos 972)
     ∷ []
 
 pub amounts-right : map (λ (c : ℤ × ℤ). c .0) amounts ≡ map (λ (c : ℤ × ℤ). c .1) amounts
-unfolding amounts VMST ofUser useCharge overrun excess allowance orZero halfUp floor
+unfolding amounts VMEs EUSTs overrunSums eachFrom sideBySide VMST ofUser useCharge overrun excess allowance orZero halfUp floor
 amounts-right = refl

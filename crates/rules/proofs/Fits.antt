@@ -3,7 +3,7 @@ use Prim.Native.Nat.{ℕ}
 use mathlib.Core.Path.{_≡_}
 use mathlib.Core.Bool.{false}
 use mathlib.Core.List.{List}
-use lib.IntN.{ℤ, pos, negsuc}
+use lib.IntN.{ℤ, pos}
 use lib.ListN.{length}
 use borrow.Author.Tests.{not-false}
 use Rattle.ints.specs.Range.{outside, Within, or-false, outside-false, within-false, eqZ-true}
@@ -12,23 +12,8 @@ use Rattle.rules.specs.Verdict.{accepted}
 use Rattle.rules.specs.Calendar.{monthOfYear, impossibleMonth}
 use Rattle.rules.specs.Lines.{Agent, User, kindOf, badAgent, badUser, badPoint, unfitPoint}
 use Rattle.rules.specs.Refusals.{pointTest}
+use Rattle.rules.specs.Ranges.{Amount, Correction, Tariff, Discount, Power, AmountsFit}
 use Rattle.rules.proofs.Tests.{when-accepted, when-then}
-
--- the ranges of a month's values
-abbrev pub Amount : ℤ → Type 0
-Amount x = Within (pos 0) (pos 100000000000) x
-
-abbrev pub Correction : ℤ → Type 0
-Correction x = Within (negsuc 99999999999) (pos 100000000000) x
-
-abbrev pub Tariff : ℤ → Type 0
-Tariff x = Within (pos 0) (pos 100000) x
-
-abbrev pub Discount : ℤ → Type 0
-Discount x = Within (pos 0) (pos 100) x
-
-abbrev pub Power : ℤ → Type 0
-Power x = Within (pos 0) (pos 20000000) x
 
 -- a month that there is
 pub record Possible (m : ℤ) : Type 0 where
@@ -72,15 +57,7 @@ agent-fits k a e =
       ret = outside-false _ _ _ (e₆ .1);
     }
 
--- its amounts, whatever its number
-pub record AmountsFit (a : Agent) : Type 0 where
-  pub pb : Amount (a .pb)
-  pub pv : Amount (a .pv)
-  pub afs : Amount (a .afs)
-  pub rfs : Amount (a .rfs)
-  pub pa : Correction (a .pa)
-  pub ret : Correction (a .ret)
-
+-- its amounts
 pub amounts-fit : {k : ℕ} {a : Agent} → AgentFits k a → AmountsFit a
 amounts-fit f = record { pb = f .pb; pv = f .pv; afs = f .afs; rfs = f .rfs; pa = f .pa; ret = f .ret }
 

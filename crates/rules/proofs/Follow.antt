@@ -9,7 +9,7 @@ use Rattle.ints.specs.Sums.{Σ<}
 use Rattle.rules.specs.declared.Ledger.{Ledger}
 use Rattle.rules.specs.Verdict.{Verdict}
 use Rattle.rules.specs.Table.{cellAt}
-use Rattle.rules.specs.Refusals.{State}
+use Rattle.rules.specs.State.{State}
 use Rattle.rules.specs.Calls.{verdictOf}
 use Rattle.rules.specs.Tally.{judged, next, after, verdicts, counted, added, chargesLessCompensation, payeeCredit}
 use Rattle.rules.specs.Demand.{Call, Chain, AllPromised, fed, lastLedger, lastHeld, billed, billedToUser, billedByPayee, AllNear}
@@ -78,7 +78,7 @@ follows users agents s g held rest (c ∷ cs) a h p =
           counted v (Σ< (suc agents) (λ i. cellAt users (c .cellsLeft) i j)) +ℤ billedToUser users agents j cs +ℤ getD (s .credits) j (pos 0))
           (t .answer)
           ∙ joined (counted (judged s (fed c)) (Σ< (suc agents) (λ i. cellAt users (c .cellsLeft) i j)))
-          (counted (judged s (fed c)) (chargesLessCompensation j (s .credits) (c .lines)))
+          (counted (judged s (fed c)) (chargesLessCompensation j s (c .lines)))
           (billedToUser users agents j cs)
           (added (chargesLessCompensation j) (next s (fed c)) (map fed cs))
           (getD (s .credits) j (pos 0))

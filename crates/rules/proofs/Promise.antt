@@ -1,95 +1,85 @@
--- The promises of opening and closing, by cases: where the tests' verdict is known, each part of the promise is what it is of a refused or
--- of an accepted call.
+-- A promise that goes by the verdict on a call, once that verdict is known; and the promises of opening and closing so.
 use Prim.Native.Nat.{ℕ}
-use mathlib.Core.Path.{_≡_, refl, sym, ap, _∙_, subst}
+use mathlib.Core.Path.{_≡_, refl, sym, ap, _∙_, subst, subst₂}
 use mathlib.Core.List.{List, _++_}
 use lib.IntN.{ℤ, pos}
 use lib.ListN.{length, take, drop, replicate}
 use lib.Seq.{take-at, drop-at}
-use Rattle.rules.specs.declared.Ledger.{Ledger}
+use Rattle.rules.specs.declared.Answer.{Answer}
 use Rattle.rules.specs.declared.Answer.the-variants.{Accepted, Refused}
+use Rattle.rules.specs.declared.Ledger.{Ledger}
 use Rattle.rules.specs.declared.Outcome.{Outcome}
-use Rattle.rules.specs.Verdict.{Verdict, accepted, refused}
+use Rattle.rules.specs.Verdict.{Verdict, accepted, refused, ByVerdict}
 use Rattle.rules.specs.Lines.{Lines}
 use Rattle.rules.specs.Charges.{VDs, newCredits}
 use Rattle.rules.specs.Credits.{VCs}
 use Rattle.rules.specs.Table.{Table}
 use Rattle.rules.specs.Refusals.{cellsNeeded, openingRefusal}
-use Rattle.rules.specs.Calls.{verdictOf, ifAccepted, emptyLedger, Opens, stateOf, closingRefusal, Billed, Worked, Closes}
+use Rattle.rules.specs.Calls.{verdictOf, emptyLedger, Opens, stateOf, closingRefusal, Closes}
+use Rattle.rules.proofs.Tests.{refused-not-accepted}
+
+module _ {v : Verdict} {done : Type 0} {back : ℕ → ℕ → Type 0} where
+  pub by-accepted : v ≡ accepted → done → ByVerdict v done back
+  by-accepted e d = record { where-accepted = λ _. d; where-refused = λ n p r. absurd (refused-not-accepted (sym r ∙ e)) }
+
+  -- the answer tells the verdict
+  pub answers : {a : Answer} → (done → a ≡ Accepted) → ((n p : ℕ) → back n p → a ≡ Refused n p) → ByVerdict v done back → verdictOf a ≡ v
+  answers {a} d b c = go v refl
+    where
+      go : (w : Verdict) → v ≡ w → verdictOf a ≡ v
+      go accepted e = ap verdictOf (d (c .where-accepted e)) ∙ sym e
+      go (refused n p) e = ap verdictOf (b n p (c .where-refused n p e)) ∙ sym e
+
+pub by-refused : {v : Verdict} {done : Type 0} {back : ℕ → ℕ → Type 0} {n p : ℕ} → v ≡ refused n p → back n p → ByVerdict v done back
+by-refused {v} {done} {back} {n} {p} e b = record {
+  where-accepted = λ a. absurd (refused-not-accepted (sym e ∙ a));
+  where-refused = λ m q r. subst₂ back (number r) (place r) b;
+}
+  where
+    number : {m q : ℕ} → v ≡ refused m q → n ≡ m
+    number r = cc
+
+    place : {m q : ℕ} → v ≡ refused m q → p ≡ q
+    place r = cc
 
 -- ---- opening
-pub opens-refused :
-    (users agents : ℕ) (held : List ℤ) (n p : ℕ)
-    → openingRefusal users agents (length held) ≡ refused n p
-    → Opens users agents held (record { answer = Refused n p; ledger = emptyLedger }) held
-opens-refused users agents held n p e =
-    record {
-      verdict = sym e;
-      ledger = sym (ap (λ (v : Verdict). ifAccepted v (record { users = users; agents = agents; month = pos 0 }) emptyLedger) e);
-      credits = sym (ap (λ (v : Verdict). ifAccepted v (replicate users (pos 0) ++ drop users held) held) e);
-    }
+module _ (users agents : ℕ) (held : List ℤ) where
+  pub opens-refused :
+      (n p : ℕ) → openingRefusal users agents (length held) ≡ refused n p → Opens users agents held (record { answer = Refused n p; ledger = emptyLedger }) held
+  opens-refused n p e = by-refused e (record { outcome = refl; credits = refl })
 
-pub opens-accepted :
-    (users agents : ℕ) (held : List ℤ)
-    → openingRefusal users agents (length held) ≡ accepted
-    → Opens users agents held (record { answer = Accepted; ledger = record { users = users; agents = agents; month = pos 0 } }) (replicate users (pos 0) ++ drop users held)
-opens-accepted users agents held e =
-    record {
-      verdict = sym e;
-      ledger = sym (ap (λ (v : Verdict). ifAccepted v (record { users = users; agents = agents; month = pos 0 }) emptyLedger) e);
-      credits = sym (ap (λ (v : Verdict). ifAccepted v (replicate users (pos 0) ++ drop users held) held) e);
-    }
+  pub opens-accepted :
+      openingRefusal users agents (length held) ≡ accepted
+      → Opens users agents held (record { answer = Accepted; ledger = record { users = users; agents = agents; month = pos 0 } }) (replicate users (pos 0) ++ drop users held)
+  opens-accepted e = by-accepted e (record { outcome = refl; credits = refl })
+
+  pub opens-verdict : {r : Outcome} {held′ : List ℤ} → Opens users agents held r held′ → verdictOf (r .answer) ≡ openingRefusal users agents (length held)
+  opens-verdict o = answers (λ d. ap (λ (x : Outcome). x .answer) (d .outcome)) (λ n p b. ap (λ (x : Outcome). x .answer) (b .outcome)) o
 
 -- ---- closing
 module _ (g : Ledger) (held : List ℤ) (l : Lines) (cells : List ℤ) (work : List ℕ) where
-  -- what closing does where the verdict on it is v
-  pub record ClosesAt (v : Verdict) (r : Outcome) (held′ cells′ : List ℤ) (work′ : List ℕ) : Type 0 where
-    pub verdict : verdictOf (r .answer) ≡ v
-    pub ledger : r .ledger ≡ ifAccepted v (record { users = g .users; agents = g .agents; month = l .month }) g
-    pub credits : held′ ≡ ifAccepted v (newCredits (take (g .users) held) l ++ drop (g .users) held) held
-    pub table : Billed v (stateOf g held) l cells cells′
-    pub scratch : Worked v work work′
-
-  pub closes-at :
-      (v : Verdict) (r : Outcome) (held′ cells′ : List ℤ) (work′ : List ℕ)
-      → closingRefusal g held cells work l ≡ v
-      → ClosesAt v r held′ cells′ work′
-      → Closes g held l cells work r held′ cells′ work′
-  closes-at v r held′ cells′ work′ e c =
-      record {
-        verdict = c .verdict ∙ sym e;
-        ledger = c .ledger ∙ sym (ap (λ (x : Verdict). ifAccepted x (record { users = g .users; agents = g .agents; month = l .month }) g) e);
-        credits = c .credits ∙ sym (ap (λ (x : Verdict). ifAccepted x (newCredits (take (g .users) held) l ++ drop (g .users) held) held) e);
-        table = subst (λ (x : Verdict). Billed x (stateOf g held) l cells cells′) (sym e) (c .table);
-        scratch = subst (λ (x : Verdict). Worked x work work′) (sym e) (c .scratch);
-      }
-
   pub closes-refused :
       (n p : ℕ) → closingRefusal g held cells work l ≡ refused n p → Closes g held l cells work (record { answer = Refused n p; ledger = g }) held cells work
-  closes-refused n p e =
-      closes-at (refused n p) _ held cells work e (record { verdict = refl; ledger = refl; credits = refl; table = refl; scratch = refl })
+  closes-refused n p e = by-refused e (record { outcome = refl; credits = refl; table = refl; scratch = refl })
 
   -- a table of the month, written over the front of the cells slice
   pub closes-accepted :
       (table : List ℤ) (work′ : List ℕ)
       → closingRefusal g held cells work l ≡ accepted
-      → Table (VCs (take (g .users) held) l) (VDs (take (g .users) held) l) table
+      → Table (VCs (stateOf g held) l) (VDs (stateOf g held) l) table
       → length table ≡ cellsNeeded (g .users) (g .agents)
       → length work′ ≡ length work
-      → Closes g held l cells work (record { answer = Accepted; ledger = record { users = g .users; agents = g .agents; month = l .month } })
-      (newCredits (take (g .users) held) l ++ drop (g .users) held)
+      → Closes g held l cells work (record { answer = Accepted; ledger = record { users = g .users; agents = g .agents; month = l .line .month } })
+      (newCredits (stateOf g held) l ++ drop (g .users) held)
       (table ++ drop (cellsNeeded (g .users) (g .agents)) cells)
       work′
   closes-accepted table work′ e t n w =
       let need = cellsNeeded (g .users) (g .agents) in
-      closes-at accepted _ _ (table ++ drop need cells) work′ e
+      by-accepted e
       (record {
-        verdict = refl;
-        ledger = refl;
+        outcome = refl;
         credits = refl;
-        table = (
-          subst (λ (x : List ℤ). Table (VCs (take (g .users) held) l) (VDs (take (g .users) held) l) x) (sym (take-at table (drop need cells) need n)) t,
-          drop-at table (drop need cells) need n,
-        );
+        table = subst (λ (x : List ℤ). Table (VCs (stateOf g held) l) (VDs (stateOf g held) l) x) (sym (take-at table (drop need cells) need n)) t;
+        beyond = drop-at table (drop need cells) need n;
         scratch = w;
       })

@@ -3,50 +3,43 @@
 use Prim.Native.Nat.{ℕ, suc, _≤_, _<_}
 use native.Mathlib.Omega.{arith}
 use mathlib.Core.Path.{_≡_, sym, _∙_}
-use mathlib.Core.List.{List, []}
+use mathlib.Core.List.{[]}
 use lib.ListN.{length, getD}
-use lib.IntN.{ℤ, pos}
-use Rattle.ints.specs.Range.{Within, outside-false}
-use Rattle.rules.specs.Verdict.{accepted, eachLine}
+use lib.IntN.{pos}
+use Rattle.ints.specs.Range.{Within}
 use Rattle.rules.specs.Lines.{Lines, agentOf, userOf, pointOf}
-use Rattle.rules.specs.Refusals.{State, Lengths, creditTest, lineTests}
-use Rattle.rules.proofs.Tests.{when-accepted, each-from-1}
-use Rattle.rules.proofs.Fits.{Amount, Possible, AgentFits, UserFits, PointFits}
-use Rattle.rules.proofs.Passed.{Passed, lines-passed}
+use Rattle.rules.specs.State.{State}
+use Rattle.rules.specs.Tested.{Tested}
+use Rattle.rules.specs.Ranges.{Amount}
+use Rattle.rules.proofs.Fits.{Possible, AgentFits, UserFits, PointFits}
+use Rattle.rules.proofs.Passed.{Passed, counts, state-passed, lines-passed}
 
-pub record Ranged (credits : List ℤ) (l : Lines) : Type 0 where
+pub record Ranged (s : State) (l : Lines) : Type 0 where
   pub few-users : length (l .users) ≤ 512
   pub few-agents : length (l .agents) ≤ 256
   pub few-points : length (l .points) ≤ 1024
-  pub month : Possible (l .month)
+  pub month : Possible (l .line .month)
   -- one held credit per user
-  pub count : length credits ≡ length (l .users)
-  pub held : (j : ℕ) → j < length credits → Within (pos 0) (pos 100000000000000000) (getD credits j (pos 0))
-  pub ons : Amount (l .ons)
+  pub count : length (s .credits) ≡ length (l .users)
+  pub held : (j : ℕ) → j < length (s .credits) → Within (pos 0) (pos 100000000000000000) (getD (s .credits) j (pos 0))
+  pub ons : Amount (l .line .ons)
   pub agent : (i : ℕ) → i < length (l .agents) → AgentFits (suc i) (getD (l .agents) i (agentOf []))
   pub user : (j : ℕ) → j < length (l .users) → UserFits (suc j) (getD (l .users) j (userOf []))
   pub point : (m : ℕ) → m < length (l .points) → PointFits (getD (l .points) m (pointOf []))
 
--- from the tests on held credits and lines
-pub ranged :
-    (credits : List ℤ) (l : Lines)
-    → length (l .users) ≤ 512
-    → length (l .agents) ≤ 256
-    → length (l .points) ≤ 1024
-    → Possible (l .month)
-    → length credits ≡ length (l .users)
-    → eachLine creditTest 1 credits ≡ accepted
-    → lineTests l ≡ accepted
-    → Ranged credits l
-ranged credits l us gs ps m w d e =
-    let lines = lines-passed l e in
+-- from the tests
+pub ranged : {s : State} {l : Lines} → Tested s l → Ranged s l
+ranged {s} {l} t =
+    let first = counts s _ _ _ (t .counts) in
+    let state = state-passed s (l .line) (t .state) in
+    let lines = lines-passed l (t .lines) in
     record {
-      few-users = us;
-      few-agents = gs;
-      few-points = ps;
-      month = m;
-      count = w;
-      held = λ j h. outside-false _ _ _ (when-accepted _ 4 (suc j) (each-from-1 creditTest credits (pos 0) d j h));
+      few-users = first .users-between .1;
+      few-agents = first .agents-between .1;
+      few-points = first .few-points;
+      month = state .month;
+      count = t .held;
+      held = state .credits;
       ons = lines .ons;
       agent = lines .agent;
       user = lines .user;
@@ -54,8 +47,8 @@ ranged credits l us gs ps m w d e =
     }
 
 -- a month that breaks no limit
-pub ranged-passed : (s : State) (n : Lengths) (l : Lines) → length (s .credits) ≡ s .users → Passed s n l → Ranged (s .credits) l
-ranged-passed s n l w p = record {
+pub ranged-passed : (s : State) (l : Lines) → length (s .credits) ≡ s .users → Passed s l → Ranged s l
+ranged-passed s l w p = record {
   few-users = omega (arith, p .users, p .few-users);
   few-agents = omega (arith, p .agents, p .few-agents);
   few-points = p .few-points;

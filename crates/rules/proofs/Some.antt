@@ -15,20 +15,22 @@ use Rattle.rules.specs.Lines.{Lines}
 use Rattle.rules.specs.Charges.{VDs}
 use Rattle.rules.specs.Credits.{VCs}
 use Rattle.rules.specs.Table.{Table}
-use Rattle.rules.specs.Refusals.{State, Lengths, cellsNeeded, refusal, openingRefusal}
+use Rattle.rules.specs.State.{State}
+use Rattle.rules.specs.Refusals.{cellsNeeded, shortSlices, refusal, openingRefusal}
 use Rattle.rules.specs.Calls.{Opens, stateOf, lengthsOf, closingRefusal, Closes}
 use Rattle.rules.specs.Demand.{Call, Promised, Chain, AllPromised}
-use Rattle.rules.proofs.Passed.{Passed, passed}
+use Rattle.rules.proofs.Passed.{Passed, slices, slices-accepted, passed}
 use Rattle.rules.proofs.Sizes.{length-VDs, length-VCs}
 use Rattle.rules.proofs.Promise.{opens-accepted, closes-refused, closes-accepted}
 
 -- a table always exists: of every month that nothing refuses
 abbrev pub Tables : Type 0
 Tables =
-    (s : State) (n : Lengths) (l : Lines)
+    (s : State) (l : Lines)
     → length (s .credits) ≡ s .users
-    → refusal s n l ≡ accepted
-    → (cells : List ℤ) × Table (VCs (s .credits) l) (VDs (s .credits) l) cells
+    → (short : Verdict)
+    → refusal s short l ≡ accepted
+    → (cells : List ℤ) × Table (VCs s l) (VDs s l) cells
 
 -- what a caller picks for a closing, besides the ledger and the held credits that it has
 pub record Input : Type 0 where
@@ -79,11 +81,12 @@ one tables g held i = go (closingRefusal g held (i .cells) (i .work) (i .lines))
     go accepted e =
         let n = lengthsOf held (i .cells) (i .work) in
         let s = stateOf g held in
-        let q : Passed s n (i .lines) = passed s n (i .lines) e in
-        let w : length (take (g .users) held) ≡ g .users = length-take-le (g .users) held (q .held) in
-        let t = tables s n (i .lines) w e in
-        let rows : length (VCs (s .credits) (i .lines)) ≡ suc (g .agents) = length-VCs (s .credits) (i .lines) ∙ ap suc (q .agents) in
-        let columns : length (VDs (s .credits) (i .lines)) ≡ g .users = length-VDs (s .credits) (i .lines) (w ∙ sym (q .users)) ∙ q .users in
+        let short = shortSlices s n in
+        let q : Passed s (i .lines) = passed s short (i .lines) e in
+        let w : length (take (g .users) held) ≡ g .users = length-take-le (g .users) held (slices s n (slices-accepted s short (i .lines) e) .held) in
+        let t = tables s (i .lines) w short e in
+        let rows : length (VCs s (i .lines)) ≡ suc (g .agents) = length-VCs s (i .lines) ∙ ap suc (q .agents) in
+        let columns : length (VDs s (i .lines)) ≡ g .users = length-VDs s (i .lines) (w ∙ sym (q .users)) ∙ q .users in
         let size : length (t .0) ≡ cellsNeeded (g .users) (g .agents) = t .1 .size ∙ ap₂ _*_ rows columns ∙ omega arith in
         one-of g held i _ _ _ (i .work) (closes-accepted g held (i .lines) (i .cells) (i .work) (t .0) (i .work) e (t .1) size refl)
 

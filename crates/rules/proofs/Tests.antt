@@ -15,6 +15,10 @@ pub then-accepted : (v w : Verdict) → (v then w) ≡ accepted → (v ≡ accep
 then-accepted accepted w e = (refl, e)
 then-accepted (refused n p) w e = absurd (refused-not-accepted e)
 
+pub then-assoc : (u v w : Verdict) → ((u then v) then w) ≡ (u then v then w)
+then-assoc accepted v w = refl
+then-assoc (refused n p) v w = refl
+
 pub when-accepted : (t : Bool) (n p : ℕ) → when t n p ≡ accepted → t ≡ false
 when-accepted true n p e = absurd (refused-not-accepted e)
 when-accepted false n p e = refl

@@ -15,11 +15,11 @@ use Rattle.rules.specs.Verdict.{accepted, refused, eachLine}
 use Rattle.rules.specs.Lists.{eachFrom, sideBySide}
 use Rattle.rules.specs.Calendar.{monthOfYear, impossibleMonth, cycleMonth}
 use Rattle.rules.specs.Lines.{Lines, agentOf, userOf, pointOf, kindOf, badAgent, badUser, badPoint, unfitPoint}
-use Rattle.rules.specs.Charges.{halfUp, orZero, useCharge, allowance, excess, overrun, ofUser, EUSTs, VMEs, pvTotal, CPVs, ns, VDs, newCredits}
-use Rattle.rules.specs.Credits.{VMPA, VMST, ownCredit, ownCredits, SMSE, VMANTs, VCs}
+use Rattle.rules.specs.Charges.{halfUp, orZero, useCharge, allowance, excess, overrun, ofUser, EUSTs, overrunSums, VMEs, pvTotal, CPVs, ns, VDs, newCredits}
+use Rattle.rules.specs.Credits.{VMPA, VMST, ownCredit, ownCredits, SMSEFrom, VMANTsFrom, agentVCsFrom, VCsFrom, VCs}
 use Rattle.rules.specs.Table.{Cell, rounded-down, cellAt, Table}
-use Rattle.rules.specs.Refusals.{badCounts, shortSlices, badMonth, lineTests, sumTests, refusal, openingRefusal}
-use Rattle.rules.specs.Calls.{Opens, closingRefusal, Closes}
+use Rattle.rules.specs.Refusals.{badCounts, shortSlices, badMonth, countTests, stateTests, linesBeforePoints, lineTests, sumTests, refusal, openingRefusal}
+use Rattle.rules.specs.Calls.{Opens, stateOf, closingRefusal, Closes}
 use Rattle.rules.specs.Demand.{Call, Chain, AllPromised, Demand3}
 use Rattle.rules.proofs.Promise.{opens-accepted, closes-accepted, closes-refused}
 use Rattle.rules.proofs.Demand.{demand-3}
@@ -28,8 +28,7 @@ use Rattle.rules.proofs.Demand.{demand-3}
 abbrev july : Lines
 july =
     record {
-      month = pos 202407;
-      ons = pos 100;
+      line = record { month = pos 202407; ons = pos 100 };
       agents =
           agentOf (map pos (1 ∷ 1000 ∷ 0 ∷ 0 ∷ 0 ∷ 0 ∷ 4 ∷ []))
           ∷ agentOf (map pos (2 ∷ 2000 ∷ 30 ∷ 0 ∷ 0 ∷ 25 ∷ 0 ∷ []))
@@ -67,24 +66,24 @@ abbrev work : List ℕ
 work = replicate 32 0
 
 first : closingRefusal new held cells work july ≡ accepted
-unfolding refusal badCounts shortSlices badMonth lineTests sumTests eachLine badAgent badUser badPoint unfitPoint outside impossibleMonth monthOfYear floor eachFrom sideBySide sumℤ halfUp orZero useCharge allowance excess overrun ofUser EUSTs VMEs pvTotal CPVs ns VDs part partsFrom runningShare kindOf
+unfolding refusal badCounts shortSlices badMonth countTests stateTests linesBeforePoints lineTests sumTests eachLine badAgent badUser badPoint unfitPoint outside impossibleMonth monthOfYear floor eachFrom sideBySide sumℤ halfUp orZero useCharge allowance excess overrun ofUser EUSTs overrunSums VMEs pvTotal CPVs ns VDs part partsFrom runningShare kindOf
 first = refl
 
 again : closingRefusal closed held cells′ work july ≡ refused 3 0
-unfolding refusal badCounts shortSlices badMonth impossibleMonth monthOfYear floor outside
+unfolding refusal countTests stateTests badCounts shortSlices badMonth impossibleMonth monthOfYear floor outside
 again = refl
 
 -- its credits and debits, and a table of them: here every exact value is whole
-credits-are : pos 635 ∷ pos 1235 ∷ pos 100 ∷ [] ≡ VCs (pos 0 ∷ pos 0 ∷ []) july
-unfolding VCs VMANTs SMSE ownCredits ownCredit VMST VMPA cycleMonth monthOfYear floor eachFrom sideBySide sumℤ halfUp orZero useCharge allowance excess overrun ofUser EUSTs VMEs pvTotal CPVs ns VDs part partsFrom runningShare
+credits-are : pos 635 ∷ pos 1235 ∷ pos 100 ∷ [] ≡ VCs (stateOf new held) july
+unfolding VCsFrom agentVCsFrom VMANTsFrom SMSEFrom ownCredits ownCredit VMST VMPA cycleMonth monthOfYear floor eachFrom sideBySide sumℤ halfUp orZero useCharge allowance excess overrun ofUser EUSTs overrunSums VMEs pvTotal CPVs ns VDs part partsFrom runningShare
 credits-are = refl
 
-debits-are : pos 394 ∷ pos 1576 ∷ [] ≡ VDs (pos 0 ∷ pos 0 ∷ []) july
-unfolding floor eachFrom sideBySide sumℤ halfUp orZero useCharge allowance excess overrun ofUser EUSTs VMEs pvTotal CPVs ns VDs part partsFrom runningShare
+debits-are : pos 394 ∷ pos 1576 ∷ [] ≡ VDs (stateOf new held) july
+unfolding floor eachFrom sideBySide sumℤ halfUp orZero useCharge allowance excess overrun ofUser EUSTs overrunSums VMEs pvTotal CPVs ns VDs part partsFrom runningShare
 debits-are = refl
 
-left : newCredits (pos 0 ∷ pos 0 ∷ []) july ≡ pos 0 ∷ pos 0 ∷ []
-unfolding floor eachFrom sideBySide sumℤ halfUp orZero useCharge allowance excess overrun ofUser EUSTs VMEs pvTotal CPVs ns newCredits part partsFrom runningShare
+left : newCredits (stateOf new held) july ≡ pos 0 ∷ pos 0 ∷ []
+unfolding floor eachFrom sideBySide sumℤ halfUp orZero useCharge allowance excess overrun ofUser EUSTs overrunSums VMEs pvTotal CPVs ns newCredits part partsFrom runningShare
 left = refl
 
 abbrev vc : List ℤ
@@ -119,7 +118,7 @@ column zero q = refl
 column (suc zero) q = refl
 column (suc (suc j)) q = absurd (omega arith)
 
-table-is : Table (VCs (pos 0 ∷ pos 0 ∷ []) july) (VDs (pos 0 ∷ pos 0 ∷ []) july) table
+table-is : Table (VCs (stateOf new held) july) (VDs (stateOf new held) july) table
 table-is = subst₂ (λ (x y : List ℤ). Table x y table) credits-are debits-are (record { size = refl; cell = cell; row = row; column = column })
 
 -- the opening and the two closings

@@ -2,7 +2,7 @@
 -- demand 3").
 use Prim.Native.Nat.{ℕ, suc, _<_}
 use mathlib.Core.Path.{_≡_}
-use mathlib.Core.List.{List, [], _∷_, _++_, map}
+use mathlib.Core.List.{List, [], _∷_, map}
 use lib.IntN.{ℤ, pos, _+ℤ_, _-ℤ_, _*ℤ_}
 use lib.ListN.{drop, getD}
 use lib.Signed.{_<ℤ_}
@@ -10,13 +10,13 @@ use Rattle.ints.specs.Bridge.{abs}
 use Rattle.ints.specs.Sums.{sumℤ, Σ<}
 use Rattle.rules.specs.declared.Ledger.{Ledger}
 use Rattle.rules.specs.declared.Outcome.{Outcome}
-use Rattle.rules.specs.Verdict.{Verdict, accepted, refused}
+use Rattle.rules.specs.Verdict.{ByVerdict}
 use Rattle.rules.specs.Lines.{Lines}
 use Rattle.rules.specs.Charges.{VDs}
 use Rattle.rules.specs.Credits.{VCs}
 use Rattle.rules.specs.Table.{cellAt}
-use Rattle.rules.specs.Refusals.{State}
-use Rattle.rules.specs.Calls.{verdictOf, lengthsOf, Closes}
+use Rattle.rules.specs.State.{State}
+use Rattle.rules.specs.Calls.{verdictOf, stateOf, lengthsOf, Closes}
 use Rattle.rules.specs.Tally.{Fed, opened, judged, next, after, verdicts, counted, added, chargesLessCompensation, payeeCredit}
 
 -- one closing: what was handed in, what was answered, and the slices as it left them
@@ -71,32 +71,25 @@ abbrev pub billedByPayee : ℕ → ℕ → List Call → ℤ
 billedByPayee users i cs = billed (λ cells. Σ< users (λ j. cellAt users cells i j)) cs
 
 -- in an accepted month every cell lies less than one cent from VC × VD / ΣVD: |cell × ΣVD − VC × VD| < ΣVD
-pub record NearCells (users agents : ℕ) (credits : List ℤ) (l : Lines) (cells : List ℤ) : Type 0 where
+pub record NearCells (s : State) (l : Lines) (cells : List ℤ) : Type 0 where
   pub near :
       (i j : ℕ)
-      → i < suc agents
-      → j < users
-      → pos (abs (cellAt users cells i j *ℤ sumℤ (VDs credits l) -ℤ getD (VCs credits l) i (pos 0) *ℤ getD (VDs credits l) j (pos 0)))
-      <ℤ sumℤ (VDs credits l)
-
-abbrev pub WhereAccepted : Verdict → Type 0 → Type 0
-WhereAccepted accepted claim = claim
-WhereAccepted (refused n p) claim = Unit {0}
+      → i < suc (s .agents)
+      → j < s .users
+      → pos (abs (cellAt (s .users) cells i j *ℤ sumℤ (VDs s l) -ℤ getD (VCs s l) i (pos 0) *ℤ getD (VDs s l) j (pos 0))) <ℤ sumℤ (VDs s l)
 
 unfoldable pub AllNear : State → List Call → Type 0
 AllNear s [] = Unit {0}
 AllNear s (c ∷ cs) =
-    WhereAccepted (judged s (fed c)) (NearCells (s .users) (s .agents) (s .credits) (c .lines) (c .cellsLeft)) × AllNear (next s (fed c)) cs
+    ByVerdict (judged s (fed c)) (NearCells s (c .lines) (c .cellsLeft)) (λ n p. Unit {0}) × AllNear (next s (fed c)) cs
 
 -- Demand 3, of the closings cs after an opening with these counts that was handed the slice heldAtOpening and left g and held
 pub record Demand3 (users agents : ℕ) (heldAtOpening : List ℤ) (g : Ledger) (held : List ℤ) (cs : List Call) : Type 0 where
   -- each closing was accepted or refused, with number and place, as the tally says
   pub answers : map (λ (c : Call). verdictOf (c .outcome .answer)) cs ≡ verdicts (opened users agents) (map fed cs)
-  -- the last ledger and held credits are the tally's; entries beyond the users are as they were before the opening
-  pub ledger-users : lastLedger g cs .users ≡ after (opened users agents) (map fed cs) .users
-  pub ledger-agents : lastLedger g cs .agents ≡ after (opened users agents) (map fed cs) .agents
-  pub ledger-month : lastLedger g cs .month ≡ after (opened users agents) (map fed cs) .month
-  pub held-credits : lastHeld held cs ≡ after (opened users agents) (map fed cs) .credits ++ drop users heldAtOpening
+  -- the last ledger and held credits stand for the tally; entries beyond the users are as they were before the opening
+  pub state : stateOf (lastLedger g cs) (lastHeld held cs) ≡ after (opened users agents) (map fed cs)
+  pub beyond : drop users (lastHeld held cs) ≡ drop users heldAtOpening
   -- a user's billed cells are its charges less compensation of the accepted months plus the credit that it still holds
   pub user-total :
       (j : ℕ)

@@ -3,10 +3,13 @@ pub mod Verdict
 pub mod Lists
 pub mod Calendar
 pub mod Lines
+pub mod Ranges
+pub mod State
 pub mod Charges
 pub mod Credits
 pub mod Table
 pub mod Refusals
+pub mod Tested
 pub mod Calls
 pub mod Tally
 pub mod Demand

@@ -1,25 +1,21 @@
 -- Why a month comes back: refusals 1 to 10 of opening and closing, in the paper's order (paper 01, "Why a month comes back").
 use Prim.Native.Nat.{ℕ, _+_, _*_}
 use mathlib.Core.Bool.{Bool, not, _&&_, _||_}
-use mathlib.Core.List.{List, map}
+use mathlib.Core.List.{List}
 use lib.Dec.{eqb, ltb}
 use lib.IntN.{ℤ, pos}
 use lib.ListN.{length}
 use lib.Signed.{leZ, ltZ}
 use Rattle.ints.specs.Range.{outside, eqZ}
 use Rattle.ints.specs.Sums.{sumℤ}
+use Rattle.rules.specs.declared.MonthLine.{MonthLine}
 use Rattle.rules.specs.declared.Point.{Point}
 use Rattle.rules.specs.Verdict.{Verdict, when, _then_, eachLine}
 use Rattle.rules.specs.Calendar.{impossibleMonth}
 use Rattle.rules.specs.Lines.{Agent, User, Lines, kindOf, badAmount, badAgent, badUser, badPoint, unfitPoint}
+use Rattle.rules.specs.State.{State}
 use Rattle.rules.specs.Charges.{pvTotal, EUSTs, VDs}
-
--- what a ledger and its held credits stand for: the counts, the last closed month (0 for none), one credit per user
-pub record State : Type 0 where
-  pub users : ℕ
-  pub agents : ℕ
-  pub month : ℤ
-  pub credits : List ℤ
+use Rattle.rules.specs.Credits.{pbs}
 
 -- the lengths of the slices that a closing is lent
 pub record Lengths : Type 0 where
@@ -81,30 +77,43 @@ pointTest users k p =
     then when (outside (pos 1) (pos (length users)) (p .user)) 6 k
     then when (unfitPoint (kindOf users (p .user)) p) 7 k
 
--- ons, agent, user and point lines in order
+-- ---- closing, group by group
+-- 1 and 2: the counts of user, agent and point lines, then the slices that were lent, on which the verdict is `short`
+unfoldable pub countTests : State → Verdict → ℕ → ℕ → ℕ → Verdict
+countTests s short users agents points = when (badCounts s users agents points) 1 0 then short
+
+-- 3 and 4: the month, then the held credits
+unfoldable pub stateTests : State → MonthLine → Verdict
+stateTests s line = when (badMonth (s .month) (line .month)) 3 0 then eachLine creditTest 1 (s .credits)
+
+-- 5, 6, 7: ons, agent and user lines in order, and then the points
+unfoldable pub linesBeforePoints : MonthLine → List Agent → List User → Verdict
+linesBeforePoints line agents users =
+    when (badAmount (line .ons)) 5 0
+    then eachLine agentTest 1 agents
+    then eachLine userTest 1 users
+
 unfoldable pub lineTests : Lines → Verdict
-lineTests l =
-    when (badAmount (l .ons)) 5 0
-    then eachLine agentTest 1 (l .agents)
-    then eachLine userTest 1 (l .users)
-    then eachLine (pointTest (l .users)) 1 (l .points)
+lineTests l = linesBeforePoints (l .line) (l .agents) (l .users) then eachLine (pointTest (l .users)) 1 (l .points)
 
--- 8: sum of pb is 0. 9: sum of pv above 0, sum of EUST 0. 10: sum VD is 0
-unfoldable pub sumTests : List ℤ → Lines → Verdict
-sumTests credits l =
-    when (eqZ (sumℤ (map (λ (a : Agent). a .pb) (l .agents))) (pos 0)) 8 0
-    then when (ltZ (pos 0) (pvTotal l) && eqZ (sumℤ (EUSTs l)) (pos 0)) 9 0
-    then when (eqZ (sumℤ (VDs credits l)) (pos 0)) 10 0
+-- 8: sum of pb is 0. 9: sum of pv above 0, sum of EUST 0
+abbrev pub weightTests : ℤ → ℤ → ℤ → Verdict
+weightTests pb pv EUST = when (eqZ pb (pos 0)) 8 0 then when (ltZ (pos 0) pv && eqZ EUST (pos 0)) 9 0
 
--- closing: 1, 2, 3, 4; then the lines; then 8, 9, 10
-unfoldable pub refusal : State → Lengths → Lines → Verdict
-refusal s n l =
-    when (badCounts s (length (l .users)) (length (l .agents)) (length (l .points))) 1 0
-    then shortSlices s n
-    then when (badMonth (s .month) (l .month)) 3 0
-    then eachLine creditTest 1 (s .credits)
+-- 10: sum VD is 0
+abbrev pub debitTest : ℤ → Verdict
+debitTest VD = when (eqZ VD (pos 0)) 10 0
+
+unfoldable pub sumTests : State → Lines → Verdict
+sumTests s l = weightTests (sumℤ (pbs (l .agents))) (pvTotal l) (sumℤ (EUSTs l)) then debitTest (sumℤ (VDs s l))
+
+-- THE ORDER: 1, 2, 3, 4; then the lines; then 8, 9, 10. Calls are lent different slices: `short` is the verdict of 2 on them
+unfoldable pub refusal : State → Verdict → Lines → Verdict
+refusal s short l =
+    countTests s short (length (l .users)) (length (l .agents)) (length (l .points))
+    then stateTests s (l .line)
     then lineTests l
-    then sumTests (s .credits) l
+    then sumTests s l
 
 -- opening gives 1 or 2
 unfoldable pub openingRefusal : ℕ → ℕ → ℕ → Verdict

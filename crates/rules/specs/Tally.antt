@@ -8,7 +8,8 @@ use Rattle.rules.specs.Verdict.{Verdict, accepted, refused}
 use Rattle.rules.specs.Lines.{Lines}
 use Rattle.rules.specs.Charges.{VMEs, CPVs, newCredits}
 use Rattle.rules.specs.Credits.{VCs}
-use Rattle.rules.specs.Refusals.{State, Lengths, refusal}
+use Rattle.rules.specs.State.{State}
+use Rattle.rules.specs.Refusals.{Lengths, shortSlices, refusal}
 
 -- a closing as the tally is fed it
 pub record Fed : Type 0 where
@@ -21,11 +22,11 @@ opened users agents = record { users = users; agents = agents; month = pos 0; cr
 
 -- closing's refusals in their order, with the tally's own counts, month and credits
 abbrev pub judged : State → Fed → Verdict
-judged s f = refusal s (f .lengths) (f .lines)
+judged s f = refusal s (shortSlices s (f .lengths)) (f .lines)
 
 -- refused, it stays as it is; accepted, each user's credit becomes VD − n and its month the closed one
 abbrev pub moved : Verdict → State → Fed → State
-moved accepted s f = record { users = s .users; agents = s .agents; month = f .lines .month; credits = newCredits (s .credits) (f .lines) }
+moved accepted s f = record { users = s .users; agents = s .agents; month = f .lines .line .month; credits = newCredits s (f .lines) }
 moved (refused n p) s f = s
 
 abbrev pub next : State → Fed → State
@@ -45,13 +46,13 @@ abbrev pub counted : Verdict → ℤ → ℤ
 counted accepted x = x
 counted (refused n p) x = pos 0
 
-unfoldable pub added : (List ℤ → Lines → ℤ) → State → List Fed → ℤ
+unfoldable pub added : (State → Lines → ℤ) → State → List Fed → ℤ
 added amount s [] = pos 0
-added amount s (f ∷ fs) = counted (judged s f) (amount (s .credits) (f .lines)) +ℤ added amount (next s f) fs
+added amount s (f ∷ fs) = counted (judged s f) (amount s (f .lines)) +ℤ added amount (next s f) fs
 
 -- charges less compensation of the user j, and the credit of the payee i, counted from 0
-abbrev pub chargesLessCompensation : ℕ → List ℤ → Lines → ℤ
-chargesLessCompensation j credits l = getD (VMEs l) j (pos 0) -ℤ getD (CPVs l) j (pos 0)
+abbrev pub chargesLessCompensation : ℕ → State → Lines → ℤ
+chargesLessCompensation j s l = getD (VMEs l) j (pos 0) -ℤ getD (CPVs l) j (pos 0)
 
-abbrev pub payeeCredit : ℕ → List ℤ → Lines → ℤ
-payeeCredit i credits l = getD (VCs credits l) i (pos 0)
+abbrev pub payeeCredit : ℕ → State → Lines → ℤ
+payeeCredit i s l = getD (VCs s l) i (pos 0)

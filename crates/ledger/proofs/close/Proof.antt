@@ -55,15 +55,15 @@ use Rattle.charges.specs.declared.scan.Sums.{Sums}
 use Rattle.charges.specs.Scan.{scanned, ScanFinds}
 use Rattle.charges.proofs.scan.Sums as S
 use Rattle.charges.proofs.scan.Sums.Laws as S′
-use Rattle.ledger.specs.Promise.{Closed}
+use Rattle.rules.specs.Calls.{Closes}
 use Rattle.records.proofs.scan as scan
 use Rattle.records.proofs.scan.Symbol as scan-def
 use Rattle.records.proofs.scan.Symbol.{name as #scan}
 use Rattle.records.proofs.scan.Met as scan-thm
-use Rattle.ledger.proofs.finish as finish
-use Rattle.ledger.proofs.finish.Symbol as finish-def
-use Rattle.ledger.proofs.finish.Symbol.{name as #finish}
-use Rattle.ledger.proofs.finish.Met as finish-thm
+use Rattle.ledger.proofs.settle as finish
+use Rattle.ledger.proofs.settle.Symbol as finish-def
+use Rattle.ledger.proofs.settle.Symbol.{name as #finish}
+use Rattle.ledger.proofs.settle.Met as finish-thm
 use Rattle.ledger.proofs.close.Key.{name as #close}
 use Rattle.ledger.proofs.close as close
 use Rattle.ledger.proofs.close.Statement as stated
@@ -110,7 +110,7 @@ module _ {M : Type 1} (𝓤 : URA M) (H : Heap 𝓤) (A : Atoms 𝓤) (W : Given
     (g : Ledger) (held : RefT (List ℤ)) (month ons : ℤ) (agents users : RefT (List (List ℤ))) (points : RefT (List Point)) (cells : RefT (List ℤ)) (work : RefT (List ℕ)) where
   -- what is promised of the month with these points, in which the answer is r and the lent slices are left so
   abbrev Said : List Point → Outcome → List ℤ → List ℤ → List ℕ → Type 0
-  Said ps r held′ cells′ work′ = Closed g (held .now) (monthLines month ons (agents .now) (users .now) ps) (cells .now) (work .now) r held′ cells′ work′
+  Said ps r held′ cells′ work′ = Closes g (held .now) (monthLines (record { month = month; ons = ons }) (agents .now) (users .now) ps) (cells .now) (work .now) r held′ cells′ work′
 
   abbrev n : ℕ
   n = length (points .now)
@@ -345,4 +345,4 @@ close-spec 𝓤 H 𝓜 𝓖 𝓡 =
     (tables 𝓤 H 𝓜 𝓡 code.env .C) (tables 𝓤 H 𝓜 𝓡 code.env .Λ) #close code.function (code.unfolded 𝓤 H 𝓜 𝓡)
     (close-meets 𝓤 H (𝓖 .A) (givenOf 𝓤 H 𝓜 𝓖) (𝓜 .mem) (𝓡 .run) (tablesOf 𝓤 H 𝓜 (tables 𝓤 H 𝓜 𝓡 code.env))
     (cited 𝓤 H (ScanC 𝓤 H (𝓖 .A) (𝓜 .mem) (𝓡 .run)) 𝓜 𝓡 code.env #scan scan-def.routine code.calls-records·scan (scan-thm.met 𝓤 H 𝓜 𝓖 𝓡))
-    (cited 𝓤 H (FinishC 𝓤 H (𝓖 .A) (𝓜 .mem) (𝓡 .run)) 𝓜 𝓡 code.env #finish finish-def.routine code.calls-ledger·finish (finish-thm.met 𝓤 H 𝓜 𝓖 𝓡)))
+    (cited 𝓤 H (FinishC 𝓤 H (𝓖 .A) (𝓜 .mem) (𝓡 .run)) 𝓜 𝓡 code.env #finish finish-def.routine code.calls-ledger·settle (finish-thm.met 𝓤 H 𝓜 𝓖 𝓡)))

@@ -8,7 +8,7 @@ use mir.Facts.{toZ-ofZ}
 use Rattle.ints.specs.Bounds.{word-add, word-sub}
 use Rattle.ints.specs.Words.{back}
 use Rattle.rules.specs.Credits.{VMST}
-use Rattle.rules.proofs.Fits.{Amount}
+use Rattle.rules.specs.Ranges.{Amount}
 use Rattle.rules.proofs.BoundsAgent.{amount}
 use Rattle.credits.proofs.agent.vmst.Statement.{statement}
 use Rattle.credits.proofs.agent.vmst.Tie as tie

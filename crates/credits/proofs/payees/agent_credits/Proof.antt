@@ -9,11 +9,10 @@ use mir.Val.{SFits}
 use mir.Facts.{toZ-ofZ}
 use Rattle.ints.specs.Bounds.{word-abs}
 use Rattle.ints.specs.Sums.{sumℤ}
-use Rattle.share.specs.Running.{runningShare}
 use Rattle.share.specs.Laws.{length-share}
 use Rattle.rules.specs.Lines.{Agent, agentOf}
-use Rattle.rules.specs.Credits.{ownCredit}
-use Rattle.credits.specs.Payable.{Payable, balanceOf, agentVCs}
+use Rattle.rules.specs.Credits.{ownCredits, SMSEFrom, pbs, VMANTsFrom, agentVCsFrom}
+use Rattle.credits.specs.Payable.{Payable}
 use Rattle.credits.proofs.Amounts.{own-small, own-summable, own-total, fillable, parts-within}
 use Rattle.credits.proofs.payees.agent_credits.Statement.{statement}
 use Rattle.credits.proofs.payees.agent_credits.Tie as tie
@@ -23,24 +22,24 @@ module _ (s : tie.Start) where
   lines = map agentOf (s .args .agents .now)
 
   abbrev own : List ℤ
-  own = map (ownCredit (s .args .month)) lines
+  own = ownCredits (s .args .line) lines
 
   abbrev weights : List ℤ
-  weights = map (λ (a : Agent). a .pb) lines
+  weights = pbs lines
 
   abbrev balance : ℤ
-  balance = balanceOf (s .args .month) (s .args .ons) (s .args .debits) lines
+  balance = SMSEFrom (s .args .debits) (s .args .line) lines
 
-  abbrev p : Payable (s .args .month) (s .args .ons) (s .args .debits) lines
+  abbrev p : Payable (s .args .debits) (s .args .line) lines
   p = s .pre .0
 
 own-is : (c : tie.After-own-credits) → c .own-credits .last .1 .1 .0 ≡ own (c .before .before)
-own-is c = rw (toZ-ofZ (c .before .before .fits .month)) at (c .own-credits .ensures)
+own-is c = c .own-credits .ensures
 
 total-requires : tie.Need-total-requires
 total-requires c κs =
     let s = c .before .before .before .before in
-    rw (own-is (c .before .before)) (own-summable (p s .lines) (s .args .month) (p s .possible))
+    rw (own-is (c .before .before)) (own-summable (p s .lines) (s .args .line) (p s .possible))
 
 total-is : (c : tie.After-total) → c .total .result ≡ sumℤ (own (c .before .before .before .before .before))
 total-is c = c .total .ensures ∙ ap sumℤ (own-is (c .before .before .before))
@@ -50,15 +49,19 @@ total-fits c = search needs
 
 smse-requires : tie.Need-smse-requires
 smse-requires c κs =
-    let s = c .before .before .before .before .before in
-    rw (toZ-ofZ (s .fits .debits), toZ-ofZ (s .fits .ons), toZ-ofZ (total-fits c), total-is c)
-    (p s .owed, word-abs (own-total (p s .lines) (s .args .month) (p s .possible)), p s .fee)
+    let d = c .before in
+    let s = d .before .before .before .before .before in
+    let f : SFits w64 (s .args .line .ons) = search needs in
+    rw (toZ-ofZ (s .fits .debits), toZ-ofZ f, toZ-ofZ (total-fits d), total-is d)
+    (p s .owed, word-abs (own-total (p s .lines) (s .args .line) (p s .possible)), p s .fee)
 
-balance-is : (c : tie.After-smse) → c .smse .result ≡ balance (c .before .before .before .before .before .before)
-unfolding balanceOf
+balance-is : (c : tie.After-smse) → c .smse .result ≡ balance (c .before .before .before .before .before .before .before)
+unfolding SMSEFrom
 balance-is c =
-    let s = c .before .before .before .before .before .before in
-    rw (toZ-ofZ (s .fits .debits), toZ-ofZ (s .fits .ons), toZ-ofZ (total-fits (c .before)), total-is (c .before)) at (c .smse .ensures)
+    let d = c .before .before in
+    let s = d .before .before .before .before .before in
+    let f : SFits w64 (s .args .line .ons) = search needs in
+    rw (toZ-ofZ (s .fits .debits), toZ-ofZ f, toZ-ofZ (total-fits d), total-is d) at (c .smse .ensures)
 
 balance-fits : (c : tie.After-smse) → SFits w64 (c .smse .result)
 balance-fits c = search needs
@@ -70,11 +73,12 @@ fill-requires : tie.Need-fill-requires
 fill-requires c κs =
     let t = c .before .before in
     let b = t .before .before .before .before in
-    let s = b .before .before .before .before .before .before in
+    let s = b .before .before .before .before .before .before .before in
     rw (toZ-ofZ (balance-fits b), balance-is b, toZ-ofZ (weight-fits t), t .pb-total .ensures, t .before .before .pbs .ensures)
     (fillable (p s) (rw length-map (s .pre .2)))
 
-parts-are : (c : tie.After-fill) → let s = c .before .before .before .before .before .before .before .before .before .before .before .before .before in c .fill .last .1 .1 .1 .0 ≡ runningShare (balance s) (weights s)
+parts-are : (c : tie.After-fill) → let s = c .before .before .before .before .before .before .before .before .before .before .before .before .before .before in c .fill .last .1 .1 .1 .0 ≡ VMANTsFrom (s .args .debits) (s .args .line) (lines s)
+unfolding VMANTsFrom
 parts-are c =
     let t = c .before .before .before in
     let b = t .before .before .before .before in
@@ -83,12 +87,13 @@ parts-are c =
 -- the parts and the agents' own credits, as they stand in the slices where they are added
 module _ (c : tie.After-fill) where
   abbrev o : tie.After-own-credits
-  o = c .before .before .before .before .before .before .before .before .before .before .before
+  o = c .before .before .before .before .before .before .before .before .before .before .before .before
 
   abbrev s : tie.Start
   s = o .before .before
 
-  long : length (runningShare (balance s) (weights s)) ≡ length (own s)
+  long : length (VMANTsFrom (s .args .debits) (s .args .line) (lines s)) ≡ length (own s)
+  unfolding VMANTsFrom ownCredits
   long = length-share (balance s) (weights s) ∙ simp length-map
 
 add-each-requires : tie.Need-add-each-requires
@@ -98,7 +103,7 @@ add-each-requires c κs =
     rw (parts-are f, own-is (o f)) (parts-within q, own-small (q .lines) _ (q .possible), long f)
 
 returns : tie.Need-returns
-unfolding agentVCs
+unfolding agentVCsFrom
 returns c =
     let f = c .before .before .before .before .before in
     let w = f .before .before .before .before .before in

@@ -7,9 +7,11 @@ use borrow.Author.Needs.{needs}
 use lib.IntN.{ℤ}
 use lib.ListN.{length, length-map}
 use lib.Seq.{length-take-le}
+use mir.Syntax.{w64}
+use mir.Val.{SFits}
 use mir.Facts.{toZ-ofZ}
 use Rattle.ints.specs.Fill.{set-last}
-use Rattle.credits.specs.Payable.{VCsFrom}
+use Rattle.rules.specs.Credits.{VCsFrom}
 use Rattle.credits.proofs.payees.vcs.Statement.{statement}
 use Rattle.credits.proofs.payees.vcs.Tie as tie
 
@@ -34,7 +36,7 @@ slice-aggregate-agent-credits-3 c = sym (length-take-le _ _ (omega arith))
 agent-credits-requires : tie.Need-agent-credits-requires
 agent-credits-requires c κs =
     let s = c .before .before .before in (
-      rw (toZ-ofZ (s .fits .month), toZ-ofZ (s .fits .ons), toZ-ofZ (s .fits .debits)) (s .pre .0),
+      rw (toZ-ofZ (s .fits .debits)) (s .pre .0),
       length-take-le _ _ (few s),
       length-take-le _ _ (few s),
       length-take-le _ _ (omega arith),
@@ -43,12 +45,13 @@ agent-credits-requires c κs =
 returns : tie.Need-returns
 unfolding VCsFrom
 returns c =
-    let d = c .before .before .before in
+    let d = c .before .before .before .before in
     let s = d .before .before .before .before in
-    let k = d .agent-credits .kept .1 .1 .1 .1 .1 .1 .0 in
-    let e = rw (toZ-ofZ (s .fits .month), toZ-ofZ (s .fits .ons), toZ-ofZ (s .fits .debits)) at (d .agent-credits .ensures .VCs) in
-    rw (toZ-ofZ (s .fits .ons))
-    (set-last (d .agent-credits .last .1 .1 .1 .1 .1 .1 .0) (s .args .vc .now) _ (s .args .ons) (s .pre .1) (k ∙ length-take-le _ _ (omega arith)) ∙ ap (λ (l : List ℤ). l ++ s .args .ons ∷ []) e)
+    let k = d .agent-credits .kept .1 .1 .1 .1 .1 .0 in
+    let e = rw (toZ-ofZ (s .fits .debits)) at (d .agent-credits .ensures .VCs) in
+    let f : SFits w64 (s .args .line .ons) = search needs in
+    rw (toZ-ofZ f)
+    (set-last (d .agent-credits .last .1 .1 .1 .1 .1 .0) (s .args .vc .now) _ (s .args .line .ons) (s .pre .1) (k ∙ length-take-le _ _ (omega arith)) ∙ ap (λ (l : List ℤ). l ++ s .args .line .ons ∷ []) e)
 
 pub vcs-spec : {M : Type 1} → statement M
 vcs-spec =

@@ -1,36 +1,29 @@
 -- Past the test the user's number less 1 is an index of its line.
 use Prim.Native.Nat.{ℕ, zero, suc, _≤_, _<_, _^_}
 use mathlib.Core.Path.{_≡_, refl, sym, ap, _∙_}
-use mathlib.Core.Bool.{true, false, true≢false}
+use mathlib.Core.Bool.{true, false}
 use mathlib.Core.List.{List, [], map}
 use native.Mathlib.Omega.{arith}
-use native.Mathlib.Decide.{decLe}
 use borrow.Author.Needs.{needs}
 use lib.IntN.{ℤ, pos, negsuc, natAbs, _-ℤ_}
 use lib.ListN.{length, getD, length-map, List·getD-map, List·getD-eq-default}
 use mir.Syntax.{w64}
 use mir.Val.{SFits}
 use mir.Facts.{toZ-ofZ, toZ-pos}
-use Rattle.ints.specs.Bridge.{abs-is, za, sub#, one#}
-use Rattle.ints.specs.Range.{outside, outside-false, within-false}
+use Rattle.ints.specs.Bridge.{za}
+use Rattle.ints.specs.Range.{outside, outside-false}
 use Rattle.ints.specs.Words.{back, Index, index}
 use Rattle.rules.specs.Lines.{User, userOf, kindOf}
+use Rattle.limits.proofs.Laws.{past, line-of}
 use Rattle.limits.proofs.points.kind_of.Statement.{statement}
 use Rattle.limits.proofs.points.kind_of.Tie as tie
 
 module _ (xs : List (List ℤ)) where
-  past : (k : ℕ) → outside (pos 1) (pos (length xs)) (pos (suc k)) ≡ true → length xs ≤ k
-  past k e = go (decLe (length xs) k)
-    where
-      go : Dec (length xs ≤ k) → length xs ≤ k
-      go (yes h) = h
-      go (no h) = absurd (true≢false (sym e ∙ within-false _ _ _ (record { above = omega za; below = omega za })))
-
   no-kind : (u : ℤ) → outside (pos 1) (pos (length xs)) u ≡ true → pos 0 ≡ kindOf (map userOf xs) u
   unfolding kindOf
   no-kind (pos zero) e = refl
   no-kind (pos (suc k)) e =
-      let h : length (map userOf xs) ≤ k = rw (length-map xs userOf) (past k e) in
+      let h : length (map userOf xs) ≤ k = rw (length-map xs userOf) (past (length xs) k e) in
       sym (ap (λ (v : User). v .kind) (List·getD-eq-default (map userOf xs) (userOf []) h))
   no-kind (negsuc k) e = refl
 
@@ -38,8 +31,7 @@ module _ (xs : List (List ℤ)) where
   unfolding kindOf
   kind-at (pos zero) e = let w = outside-false _ _ _ e in absurd (omega za)
   kind-at (pos (suc k)) e =
-      let h : natAbs (pos (suc k) -ℤ pos 1) ≡ k = omega (za, sub# (pos (suc k)) (pos 1), abs-is (pos (suc k) -ℤ pos 1), one# (pos (suc k) -ℤ pos 1)) in
-      rw h (sym (ap (λ (v : User). v .kind) (List·getD-map userOf xs k [])))
+      rw (line-of k) (sym (ap (λ (v : User). v .kind) (List·getD-map userOf xs k [])))
   kind-at (negsuc k) e = let w = outside-false _ _ _ e in absurd (omega za)
 
 tested : (c : tie.After-outside) → c .outside .result ≡ outside (pos 1) (pos (length (c .before .args .users .now))) (c .before .args .user)
