@@ -7,6 +7,7 @@ use charges::month::Bills;
 use charges::scan::Sums;
 use libc::STDOUT_FILENO;
 use rules::Answer;
+use rules::MonthLine;
 use rules::Point;
 
 // Values anywhere in their ranges; small ones, so that many charges end in half a cent; the ends of the ranges; now and then past
@@ -213,7 +214,11 @@ fn show_bills(agents: &[[i64; 7]], users: &[[i64; 3]], held: &[i64], s: Sums) ->
     let Answer::Accepted = first else {
         return [0i64; 3];
     };
-    let lines = limits::lines::lines_before_points(0, agents, users);
+    let line = MonthLine {
+        month: 202_407,
+        ons: 0,
+    };
+    let lines = limits::lines::lines_before_points(line, agents, users);
     let Answer::Accepted = lines else {
         return [0i64; 3];
     };

@@ -15,6 +15,7 @@ ghost use Rattle.credits.specs.Columns.{AgentLines};
 ghost use Rattle.credits.specs.Payable.{Payable};
 use libc::STDOUT_FILENO;
 use rules::Answer;
+use rules::MonthLine;
 
 // Values anywhere in their ranges; small ones; the ends of the ranges; pa and ret below 0.
 const ANY: u64 = 0;
@@ -97,13 +98,13 @@ fn line(style: u64, number: i64, state: u64) -> Drawn {
 }
 
 // Whether the tests of closing let such a month pass.
-fn payable(month: i64, ons: i64, debits: i64, agents: &[[i64; 7]]) -> bool
-    ensures { λ r. ⌜ (r ≡ true → Payable month ons debits (map agentOf (now (agents .entry)))) ⌝ }
+fn payable(debits: i64, line: MonthLine, agents: &[[i64; 7]]) -> bool
+    ensures { λ r. ⌜ (r ≡ true → Payable debits line (map agentOf (now (agents .entry)))) ⌝ }
 {
-    if limits::months::impossible_month(month) {
+    if limits::months::impossible_month(line.month) {
         return false;
     }
-    if limits::lines::bad_amount(ons) {
+    if limits::lines::bad_amount(line.ons) {
         return false;
     }
     if ints::outside(0, 1_689_600_000_000_000, debits) {
@@ -156,12 +157,13 @@ fn show(
         × (length (now each) ≡ length (now agents))
         × (length (now vc) ≡ length (now agents) + 1) ⌝ }
 {
-    if !payable(month, ons, debits, agents) {
+    let line = MonthLine { month, ons };
+    if !payable(debits, line, agents) {
         put(b" refused\n");
         return;
     }
-    let balance = credits::payees::agent_credits(month, ons, debits, agents, pb, vmant, each);
-    credits::payees::vcs(month, ons, debits, agents, vc);
+    let balance = credits::payees::agent_credits(debits, line, agents, pb, vmant, each);
+    credits::payees::vcs(debits, line, agents, vc);
     rows(month, agents, vmant, vc);
     amount(balance);
     amount(vc[agents.len()]);

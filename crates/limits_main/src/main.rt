@@ -3,6 +3,7 @@
 use libc::STDOUT_FILENO;
 use rules::Answer;
 use rules::Ledger;
+use rules::MonthLine;
 use rules::Point;
 
 // On either side of each limit, and months.
@@ -110,6 +111,14 @@ fn credits_with(line: u64, x: i64) -> Answer {
     limits::lines::credits_verdict(&credits)
 }
 
+// A month line with this ons.
+fn line_of(ons: i64) -> MonthLine {
+    MonthLine {
+        month: 202_407,
+        ons,
+    }
+}
+
 fn agents_with(line: u64, column: usize, x: i64) -> Answer {
     let agents = [
         agent(1, line == 1, column, x),
@@ -117,7 +126,7 @@ fn agents_with(line: u64, column: usize, x: i64) -> Answer {
         agent(3, line == 3, column, x),
     ];
     let users = [[1, 2, 0]];
-    limits::lines::lines_before_points(0, &agents, &users)
+    limits::lines::lines_before_points(line_of(0), &agents, &users)
 }
 
 // Kinds 1, 2 and 3 in turn.
@@ -128,7 +137,7 @@ fn users_with(line: u64, column: usize, x: i64) -> Answer {
         user(3, line == 3, column, x),
     ];
     let agents = [[1, 7, 0, 0, 0, 0, 0]];
-    limits::lines::lines_before_points(0, &agents, &users)
+    limits::lines::lines_before_points(line_of(0), &agents, &users)
 }
 
 // The point on this line is the user's of that number.
@@ -171,7 +180,7 @@ fn month_after(line: u64, x: i64) -> Answer {
 fn ons_with(x: i64) -> Answer {
     let agents = [[1, 7, 0, 0, 0, 0, 0], [2, -1, 0, 0, 0, 0, 0]];
     let users = [[1, 4, 0]];
-    limits::lines::lines_before_points(x, &agents, &users)
+    limits::lines::lines_before_points(line_of(x), &agents, &users)
 }
 
 fn answer(block: u64, line: u64, column: usize, x: i64) -> Answer {

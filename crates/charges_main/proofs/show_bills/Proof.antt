@@ -1,12 +1,13 @@
 -- What the tests have shown is what the amounts ask for.
-use Prim.Native.Nat.{_≤_}
+use Prim.Native.Nat.{ℕ, _≤_}
 use native.Mathlib.Omega.{arith}
 use mathlib.Core.Path.{_≡_, refl, sym, ap, ap₂, _∙_}
 use mathlib.Core.Bool.{false, _&&_}
 use mathlib.Core.List.{List, map}
 use borrow.Author.Needs.{needs}
+use borrow.Author.Tests.{le-ltb}
 use lib.IntN.{ℤ, pos}
-use lib.ListN.{length}
+use lib.ListN.{length, length-map}
 use lib.Seq.{length-take-le}
 use lib.Signed.{ltZ}
 use mir.Syntax.{w64}
@@ -16,26 +17,39 @@ use Rattle.ints.specs.Floor.{floor}
 use Rattle.ints.specs.Range.{eqZ, outside}
 use Rattle.ints.specs.Sums.{sumℤ}
 use Rattle.ints.specs.Words.{back}
-use Rattle.limits.proofs.Laws.{points-last}
 use Rattle.rules.specs.declared.Point.{Point}
 use Rattle.rules.specs.Calendar.{monthOfYear, impossibleMonth}
 use Rattle.rules.specs.Verdict.{accepted, _then_, eachLine}
-use Rattle.rules.specs.Lines.{Lines, userOf, monthLines}
-use Rattle.rules.specs.Charges.{EUSTs, pvTotal}
-use Rattle.rules.specs.Refusals.{pointTest, lineTests}
+use Rattle.rules.specs.declared.MonthLine.{MonthLine}
+use Rattle.rules.specs.Lines.{Lines, agentOf, userOf, monthLines}
+use Rattle.rules.specs.State.{State}
+use Rattle.rules.specs.Charges.{EUSTs, pvs, pvTotal}
+use Rattle.rules.specs.Refusals.{badCounts, badMonth, pointTest, stateTests, lineTests}
+use Rattle.rules.specs.Tested.{Tested}
 use Rattle.rules.specs.Calls.{verdictOf}
 use Rattle.charges.specs.declared.scan.Sums.{Sums}
 use Rattle.charges.specs.Scan.{scanned}
-use Rattle.charges.specs.Month.{pvOf, Month, firstUses, firstOverruns}
+use Rattle.charges.specs.Month.{Month, firstUses, firstOverruns}
 use Rattle.charges.proofs.Scanned.{scan-law}
-use Rattle.charges.proofs.Ready.{Tested, in-range, uses-asked, pv-is, uses-sum-is, ready}
+use Rattle.charges.proofs.Ready.{in-range, uses-asked, pv-is, uses-sum-is, ready}
 use Rattle.credits.proofs.Tested.{agent-lines}
 use Rattle.charges_main.proofs.show_bills.Statement.{statement}
 use Rattle.charges_main.proofs.show_bills.Tie as tie
 
-july : impossibleMonth (pos 202407) ≡ false
-unfolding impossibleMonth monthOfYear outside floor
-july = refl
+abbrev july : MonthLine
+july = record { month = pos 202407; ons = pos 0 }
+
+-- a new ledger of three users and one agent, with these credits
+abbrev state : List ℤ → State
+state held = record { users = 3; agents = 1; month = pos 0; credits = held }
+
+counted : (held : List ℤ) (users agents points : ℕ) → users ≡ 3 → agents ≡ 1 → points ≤ 1024 → badCounts (state held) users agents points ≡ false
+unfolding badCounts
+counted held users agents points u a h = rw (u, a, le-ltb _ _ h)
+
+month-fine : badMonth (pos 0) (pos 202407) ≡ false
+unfolding badMonth impossibleMonth monthOfYear outside floor
+month-fine = refl
 
 -- past the three verdicts
 module _ (c : tie.After-enum-told5) where
@@ -55,7 +69,7 @@ module _ (c : tie.After-enum-told5) where
   points = start .pre .1 .points
 
   abbrev l : Lines
-  l = monthLines (pos 202407) (pos 0) agents users points
+  l = monthLines july agents users points
 
   scan-is : start .args .s ≡ scanned (map userOf users) points
   scan-is = start .pre .1 .scan
@@ -67,26 +81,27 @@ module _ (c : tie.After-enum-told5) where
       ∙ ap verdictOf (c .before .before .before .before .before .before .enum-told .given .1)
 
   lines-fine : lineTests l ≡ accepted
+  unfolding lineTests
   lines-fine =
-      points-last l
-      ∙ ap₂ _then_ (sym (c .before .before .before .before .before .lines-before-points .ensures) ∙ ap verdictOf (c .before .before .before .enum-told3 .given .1)) points-fine
+      ap₂ _then_ (sym (c .before .before .before .before .before .lines-before-points .ensures) ∙ ap verdictOf (c .before .before .before .enum-told3 .given .1)) points-fine
 
-  tested : Tested (pos 202407) (pos 0) agents users points held
+  state-fine : stateTests (state held) july ≡ accepted
+  unfolding stateTests
+  state-fine = rw month-fine (sym (c .before .before .credits-verdict .ensures) ∙ ap verdictOf (c .enum-told5 .given .1))
+
+  tested : Tested (state held) l
   tested = record {
-    few-users = omega (arith, start .pre .0);
-    few-agents = omega (arith, start .pre .0);
-    few-points = start .pre .1 .few;
-    possible-month = july;
-    held-count = omega (arith, start .pre .0);
-    held-passed = sym (c .before .before .credits-verdict .ensures) ∙ ap verdictOf (c .enum-told5 .given .1);
-    lines-passed = lines-fine;
+    counts = counted held _ _ _ (length-map users userOf ∙ start .pre .0 .three-users) (length-map agents agentOf ∙ start .pre .0 .one-agent) (start .pre .1 .few);
+    state = state-fine;
+    lines = lines-fine;
+    held = start .pre .0 .three-credits ∙ sym (length-map users userOf ∙ start .pre .0 .three-users);
   }
 
   long : length users ≤ length (start .args .s .uses)
   long = omega (arith, start .pre .0, ap (λ (s : Sums). length (s .uses)) scan-is, scan-law (map userOf users) points (start .pre .1 .few) .uses-count)
 
 pv-total-requires : tie.Need-pv-total-requires
-pv-total-requires c κs = agent-lines (in-range (pos 202407) (pos 0) (agents c) (users c) (points c) (held c) (tested c))
+pv-total-requires c κs = agent-lines (in-range (state (held c)) july (agents c) (users c) (points c) (tested c))
 
 array-share-prefix-uses : tie.Need-array-share-prefix-uses
 array-share-prefix-uses c = long (c .before .before)
@@ -97,14 +112,14 @@ slice-aggregate-total c = sym (length-take-le _ _ (long (c .before .before .befo
 total-requires : tie.Need-total-requires
 total-requires c κs =
     let d = c .before .before .before in
-    rw (scan-is d) (uses-asked (pos 202407) (pos 0) (agents d) (users d) (points d) (held d) (tested d))
+    rw (scan-is d) (uses-asked (state (held d)) july (agents d) (users d) (points d) (tested d))
 
 moved :
-    (users : List (List ℤ)) {s s′ : Sums} {pv pv′ : ℤ} {held : List ℤ} {l : Lines}
+    (users : List (List ℤ)) {s s′ : Sums} {pv pv′ : ℤ} {held : List ℤ} {st : State} {l : Lines}
     → s ≡ s′
     → pv ≡ pv′
-    → Month users (firstUses users s′) (firstOverruns users s′) pv′ held l
-    → Month users (firstUses users s) (firstOverruns users s) pv held l
+    → Month users (firstUses users s′) (firstOverruns users s′) pv′ held st l
+    → Month users (firstUses users s) (firstOverruns users s) pv held st l
 moved users e f m = rw (e, f) m
 
 -- past test 9
@@ -118,7 +133,7 @@ module _ (c : tie.Else1) where
   abbrev sum : ℤ
   sum = c .before .before .total .result
 
-  pv-told : back pv ≡ sumℤ (pvOf (agents d))
+  pv-told : back pv ≡ sumℤ (pvs (map agentOf (agents d)))
   pv-told =
       let f : SFits w64 pv = search needs in
       toZ-ofZ f ∙ c .before .before .before .before .before .pv-total .ensures
@@ -131,16 +146,16 @@ module _ (c : tie.Else1) where
   passed : (ltZ (pos 0) (pvTotal (l d)) && eqZ (sumℤ (EUSTs (l d))) (pos 0)) ≡ false
   passed =
       ap₂ (λ (x y : ℤ). ltZ (pos 0) x && eqZ y (pos 0))
-      (sym (pv-told ∙ pv-is (pos 202407) (pos 0) (agents d) (users d) (points d) (held d) (tested d)))
-      (sym (sum-told ∙ uses-sum-is (pos 202407) (pos 0) (agents d) (users d) (points d) (held d) (tested d)))
+      (sym (pv-told ∙ pv-is (state (held d)) july (agents d) (users d) (points d) (tested d)))
+      (sym (sum-told ∙ uses-sum-is (state (held d)) july (agents d) (users d) (points d) (tested d)))
       ∙ sym (c .before .no-weights .ensures)
       ∙ c .if1 .left
 
-  month : Month (users d) (firstUses (users d) (start d .args .s)) (firstOverruns (users d) (start d .args .s)) (back pv) (held d) (l d)
-  month = moved (users d) (scan-is d) pv-told (ready (pos 202407) (pos 0) (agents d) (users d) (points d) (held d) (tested d) passed)
+  month : Month (users d) (firstUses (users d) (start d .args .s)) (firstOverruns (users d) (start d .args .s)) (back pv) (held d) (state (held d)) (l d)
+  month = moved (users d) (scan-is d) pv-told (ready (state (held d)) july (agents d) (users d) (points d) (tested d) refl passed)
 
 bill-requires : tie.Need-bill-requires
-bill-requires c κs = (l (d c), month c)
+bill-requires c κs = (_, l (d c), month c)
 
 pub show-bills-spec : {M : Type 1} → statement M
 show-bills-spec =

@@ -16,7 +16,7 @@ use Rattle.credits.proofs.Tested.{accepted-lines}
 use Rattle.credits_main.proofs.payable.Statement.{statement}
 use Rattle.credits_main.proofs.payable.Tie as tie
 
-lines : (c : tie.After-enum-told2) → AgentLines (map agentOf (c .before .before .before .before .before .before .before .before .before .before .args .agents .now))
+lines : (c : tie.After-enum-told2) → AgentLines (map agentOf (c .before .before .before .before .before .before .before .before .before .before .before .before .args .agents .now))
 lines c =
     let d = c .before .before in
     accepted-lines _ (rw length-map (d .before .if4 .left)) (sym (d .agents-verdict .ensures) ∙ ap verdictOf (c .enum-told2 .given .1))
@@ -44,13 +44,15 @@ returns-6 c e =
     let x4 = c .before .before .before .before in
     let x3 = x4 .before in
     let x2 = x3 .before .before in
-    let x1 = x2 .before .before in
-    let s = x1 .before .before in
+    let x1 = x2 .before .before .before in
+    let s = x1 .before .before .before in
+    let month : SFits w64 (s .args .line .month) = search needs in
+    let ons : SFits w64 (s .args .line .ons) = search needs in
     let f : SFits w64 (c .pb-total .result) = search needs in
     let w = rw (toZ-ofZ f, c .pb-total .ensures) at e in
     record {
-      possible = rw (toZ-ofZ (s .fits .month)) at (sym (x1 .before .impossible-month .ensures) ∙ x1 .if1 .left);
-      fee = outside-false _ _ _ (rw (toZ-ofZ (s .fits .ons)) at (sym (x2 .before .bad-amount .ensures) ∙ x2 .if2 .left));
+      possible = rw (toZ-ofZ month) at (sym (x1 .before .impossible-month .ensures) ∙ x1 .if1 .left);
+      fee = outside-false _ _ _ (rw (toZ-ofZ ons) at (sym (x2 .before .bad-amount .ensures) ∙ x2 .if2 .left));
       owed = outside-false _ _ _ (rw (toZ-ofZ (s .fits .debits)) at (sym (x3 .before .outside .ensures) ∙ x3 .if3 .left));
       lines = lines (c .before);
       weighed = omega za;

@@ -10,7 +10,7 @@ use Rattle.credits_main.proofs.show.Statement.{statement}
 use Rattle.credits_main.proofs.show.Tie as tie
 
 -- as the calls read it
-asked : (c : tie.Else1) → let a = c .before .before .args in Payable (back (a .month)) (back (a .ons)) (back (a .debits)) (map agentOf (a .agents .now))
+asked : (c : tie.Else1) → let a = c .before .before .args in Payable (back (a .debits)) (record { month = back (a .month); ons = back (a .ons) }) (map agentOf (a .agents .now))
 asked c = c .before .payable .ensures (not-false _ (c .if1 .left))
 
 agent-credits-requires : tie.Need-agent-credits-requires
@@ -29,7 +29,7 @@ rows-requires c κs =
     let d = c .before .before .before .before .before .before .before .before .before .before .before .before in
     let p = d .before .before .pre in
     let a = asked d in
-    (a .possible, a .lines, c .before .before .before .before .before .before .before .before .agent-credits .kept .1 .1 .1 .1 .1 .0 ∙ p .1, c .before .before .before .vcs .kept .1 .1 .1 .1 .0 ∙ p .3)
+    (a .possible, a .lines, c .before .before .before .before .before .before .before .before .agent-credits .kept .1 .1 .1 .1 .0 ∙ p .1, c .before .before .before .vcs .kept .1 .1 .1 .0 ∙ p .3)
 
 pub show-spec : {M : Type 1} → statement M
 show-spec =
