@@ -15,6 +15,7 @@ use Rattle.ints.specs.Adding.{Summable}
 use Rattle.share.specs.Filling.{Fillable}
 use Rattle.share.specs.Laws.{parts-small}
 use Rattle.rules.specs.Calendar.{impossibleMonth, cycleMonth}
+use Rattle.rules.specs.Most.{mostAmount, mostBalance, mostDebits, mostOwn, mostParcels}
 use Rattle.rules.specs.Lines.{Agent}
 use Rattle.rules.specs.declared.MonthLine.{MonthLine}
 use Rattle.rules.specs.Charges.{pvs}
@@ -33,7 +34,7 @@ module _ {agents : List Agent} (l : AgentLines agents) where
   few : (f : Agent → ℤ) → length (map f agents) ≤ 256
   few f = rw length-map (l .few)
 
-  pb-words : Words 0 100000000000 (pbs agents)
+  pb-words : Words 0 mostAmount (pbs agents)
   pb-words = column (λ (a : Agent). a .pb) agents (λ i h. amount (l .line i h .pb))
 
   summable : {L H : ℕ} (f : Agent → ℤ) → Words L H (map f agents) → T (leb L 400000000000) → T (leb H 400000000000) → Summable (map f agents)
@@ -42,8 +43,8 @@ module _ {agents : List Agent} (l : AgentLines agents) where
   pub pb-summable : Summable (pbs agents)
   pb-summable = summable _ pb-words tt tt
 
-  pb-total : Word 0 25600000000000 (sumℤ (pbs agents))
-  pb-total = word-sum 100000000000 256 _ pb-words (few _) tt
+  pb-total : Word 0 mostParcels (sumℤ (pbs agents))
+  pb-total = word-sum mostAmount 256 _ pb-words (few _) tt
 
   pub pv-summable : Summable (pvs agents)
   pv-summable = summable _ (column (λ (a : Agent). a .pv) agents (λ i h. amount (l .line i h .pv))) tt tt
@@ -60,21 +61,21 @@ module _ {agents : List Agent} (l : AgentLines agents) where
     unfolding ownCredits
     own-summable = summable _ own-words tt tt
 
-    pub own-total : Word 102400000000000 102400000000000 (sumℤ (ownCredits line agents))
+    pub own-total : Word mostOwn mostOwn (sumℤ (ownCredits line agents))
     unfolding ownCredits
     own-total = word-total 400000000000 256 _ own-words (few _) tt
 
 module _ {debits : ℤ} {line : MonthLine} {agents : List Agent} (p : Payable debits line agents) where
-  owed : Word 0 1689600000000000 debits
+  owed : Word 0 mostDebits debits
   owed = let w = p .owed in word (omega za) (omega za) tt
 
-  balance : Word 102500000000000 1792000000000000 (SMSEFrom debits line agents)
+  balance : Word 102500000000000 mostBalance (SMSEFrom debits line agents)
   unfolding SMSEFrom
   balance = word-sub (word-sub owed (own-total (p .lines) line (p .possible)) tt) (amount (p .fee)) tt
 
   pub fillable : {parts : List ℤ} → length parts ≡ length agents → Fillable (SMSEFrom debits line agents) (sumℤ (pbs agents)) (pbs agents) parts
   fillable e = record {
-    amount = le-trans (word-abs (word-wide 1792000000000000 1792000000000000 balance tt tt)) (omega arith);
+    amount = le-trans (word-abs (word-wide mostBalance mostBalance balance tt tt)) (omega arith);
     weights = words-nonneg (pb-words (p .lines));
     sum = refl;
     some = let h = p .weighed in omega za;
@@ -82,8 +83,8 @@ module _ {debits : ℤ} {line : MonthLine} {agents : List Agent} (p : Payable de
     long = e ∙ sym (rw length-map refl);
   }
 
-  pub parts-within : Small 1792000000000000 (VMANTsFrom debits line agents)
+  pub parts-within : Small mostBalance (VMANTsFrom debits line agents)
   unfolding VMANTsFrom
   parts-within =
       let s = parts-small (SMSEFrom debits line agents) _ (words-nonneg (pb-words (p .lines))) (p .weighed) in
-      record { small = λ i h. le-trans (s .small i h) (word-abs (word-wide 1792000000000000 1792000000000000 balance tt tt)) }
+      record { small = λ i h. le-trans (s .small i h) (word-abs (word-wide mostBalance mostBalance balance tt tt)) }

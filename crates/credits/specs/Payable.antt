@@ -9,6 +9,7 @@ use Rattle.ints.specs.Range.{Within}
 use Rattle.ints.specs.Sums.{sumℤ}
 use Rattle.rules.specs.declared.MonthLine.{MonthLine}
 use Rattle.rules.specs.Calendar.{impossibleMonth}
+use Rattle.rules.specs.Most.{mostDebits}
 use Rattle.rules.specs.Lines.{Agent}
 use Rattle.rules.specs.Ranges.{Amount}
 use Rattle.rules.specs.Credits.{SMSEFrom, pbs, VMANTsFrom, agentVCsFrom}
@@ -18,7 +19,7 @@ use Rattle.credits.specs.Columns.{AgentLines}
 pub record Payable (debits : ℤ) (line : MonthLine) (agents : List Agent) : Type 0 where
   pub possible : impossibleMonth (line .month) ≡ false
   pub fee : Amount (line .ons)
-  pub owed : Within (pos 0) (pos 1689600000000000) debits
+  pub owed : Within (pos 0) (pos mostDebits) debits
   pub lines : AgentLines agents
   pub weighed : pos 0 <ℤ sumℤ (pbs agents)
 

@@ -8,6 +8,7 @@ ghost use lib.ListN.{length};
 ghost use Rattle.ints.specs.Bridge.{abs};
 ghost use Rattle.ints.specs.Range.{Within};
 ghost use Rattle.ints.specs.Sums.{Small};
+ghost use Rattle.rules.specs.Most.{mostBalance, mostDebits, mostOwn};
 ghost use Rattle.rules.specs.Calendar.{impossibleMonth};
 ghost use Rattle.rules.specs.Lines.{agentOf};
 ghost use Rattle.rules.specs.Credits.{ownCredits, VCsFrom};
@@ -35,7 +36,7 @@ pub fn own_credits(line: MonthLine, agents: &[AgentLine], out: &mut [i64])
 
 // Balance SMSE: what the users owe, less what the agents receive of their own, less ons.
 pub fn smse(debits: i64, own: i64, ons: i64) -> i64
-    requires { ⌜ Within (pos 0) (pos 1689600000000000) debits × (abs own ≤ 102400000000000) × Amount ons ⌝ }
+    requires { ⌜ Within (pos 0) (pos mostDebits) debits × (abs own ≤ mostOwn) × Amount ons ⌝ }
     ensures { λ r. ⌜ r ≡ debits -ℤ own -ℤ ons ⌝ }
 {
     debits - own - ons
@@ -43,7 +44,7 @@ pub fn smse(debits: i64, own: i64, ons: i64) -> i64
 
 // Adds each part to its entry.
 fn add_each(parts: &[i64], out: &mut [i64])
-    requires { ⌜ Small 1792000000000000 (now parts)
+    requires { ⌜ Small mostBalance (now parts)
         × Small 400000000000 (now out)
         × (length (now parts) ≡ length (now out)) ⌝ }
     ensures { λ _. ⌜ now (out .exit) ≡ sideBySide _+ℤ_ (now (out .entry)) (now (parts .entry)) ⌝ }

@@ -4,7 +4,7 @@ ghost use mathlib.Core.List.{map};
 ghost use lib.IntN.{pos};
 ghost use Rattle.ints.specs.Range.{eqZ};
 ghost use Rattle.rules.specs.Verdict.{eachLine};
-ghost use Rattle.rules.specs.Lines.{agentOf, userOf, badAmount, badCorrection, badAgent, badUser};
+ghost use Rattle.rules.specs.Lines.{agentOf, userOf, badAmount, badCorrection, badAmounts, badAgent, badUser};
 ghost use Rattle.rules.specs.Refusals.{creditTest, agentTest, userTest, linesBeforePoints};
 ghost use Rattle.rules.specs.Calls.{verdictOf};
 use rules::AgentLine;
@@ -55,15 +55,24 @@ pub fn credits_verdict(credits: &[i64]) -> Answer
     Answer::Accepted
 }
 
+// An agent's four amounts.
+fn bad_amounts(pb: i64, pv: i64, afs: i64, rfs: i64) -> bool
+    ensures { λ r. ⌜ r ≡ badAmounts pb pv afs rfs ⌝ }
+{
+    bad_amount(pb) | bad_amount(pv) | bad_amount(afs) | bad_amount(rfs)
+}
+
 // 5 of the agent line at position k.
 pub fn bad_agent(k: u64, line: AgentLine) -> bool
     ensures { λ r. ⌜ r ≡ badAgent k (agentOf line) ⌝ }
 {
     !is_number(line[columns::AGENT_NUMBER], k)
-        | bad_amount(line[columns::PB])
-        | bad_amount(line[columns::PV])
-        | bad_amount(line[columns::AFS])
-        | bad_amount(line[columns::RFS])
+        | bad_amounts(
+            line[columns::PB],
+            line[columns::PV],
+            line[columns::AFS],
+            line[columns::RFS],
+        )
         | bad_correction(line[columns::PA])
         | bad_correction(line[columns::AGENT_RET])
 }

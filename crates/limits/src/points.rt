@@ -1,7 +1,7 @@
 // Point lines: refusals 5, 6 and 7, in this order on each line.
 ghost use mathlib.Core.Path.{_≡_};
 ghost use mathlib.Core.List.{map};
-ghost use Rattle.rules.specs.Lines.{userOf, kindOf, badTariff, badDiscount, badPower, badPoint, unfitPoint};
+ghost use Rattle.rules.specs.Lines.{userOf, kindOf, badTariff, badDiscount, badPower, badBand, badPoint, unfitPoint};
 ghost use Rattle.rules.specs.Refusals.{pointTest};
 ghost use Rattle.rules.specs.Calls.{verdictOf};
 use rules::Answer;
@@ -27,18 +27,18 @@ fn bad_power(x: i64) -> bool
     ints::outside(0, 20_000_000, x)
 }
 
+// A band of a point.
+fn bad_band(tariff: i64, discount: i64, contracted: i64, verified: i64) -> bool
+    ensures { λ r. ⌜ r ≡ badBand tariff discount contracted verified ⌝ }
+{
+    bad_tariff(tariff) | bad_discount(discount) | bad_power(contracted) | bad_power(verified)
+}
+
 // 5 of a point line.
 pub fn bad_point(p: Point) -> bool
     ensures { λ r. ⌜ r ≡ badPoint p ⌝ }
 {
-    bad_tariff(p.tp)
-        | bad_tariff(p.tf)
-        | bad_discount(p.dp)
-        | bad_discount(p.df)
-        | bad_power(p.mp)
-        | bad_power(p.mf)
-        | bad_power(p.vp)
-        | bad_power(p.vf)
+    bad_band(p.tp, p.dp, p.mp, p.vp) | bad_band(p.tf, p.df, p.mf, p.vf)
 }
 
 // 7 of a point line whose user has this kind: a generator's f column or a distributor's discount that is not 0.

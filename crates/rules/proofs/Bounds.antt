@@ -17,6 +17,7 @@ use Rattle.ints.specs.Sums.{sumℤ, entry-le-sum}
 use Rattle.rules.specs.declared.Ledger.{Ledger}
 use Rattle.rules.specs.declared.Point.{Point}
 use Rattle.rules.specs.Verdict.{Verdict, accepted}
+use Rattle.rules.specs.Most.{mostCredit}
 use Rattle.rules.specs.Lines.{Lines, pointOf}
 use Rattle.rules.specs.Charges.{halfUp, orZero, useCharge, allowance, excess, overrun, VDs}
 use Rattle.rules.specs.Credits.{VCs}
@@ -37,13 +38,13 @@ pub record CellBounds (s : State) (l : Lines) : Type 0 where
       (i j : ℕ)
       → i < suc (length (l .agents))
       → j < length (l .users)
-      → Word 1792400000000000 1792400000000000 (floor (getD (VCs s l) i (pos 0) *ℤ getD (VDs s l) j (pos 0)) (sumℤ (VDs s l)))
+      → Word mostCredit mostCredit (floor (getD (VCs s l) i (pos 0) *ℤ getD (VDs s l) j (pos 0)) (sumℤ (VDs s l)))
   pub cell-at :
       (i j : ℕ) {c : ℤ}
       → i < suc (length (l .agents))
       → j < length (l .users)
       → Cell (getD (VCs s l) i (pos 0) *ℤ getD (VDs s l) j (pos 0)) (sumℤ (VDs s l)) c
-      → Word 1792400000000000 1792400000000001 c
+      → Word mostCredit 1792400000000001 c
 
 pub record Bounds (s : State) (l : Lines) : Type 0 where
   pub sums : SumBounds l
@@ -69,9 +70,9 @@ cell-bounds {s} {l} w b c z = record { floor-at = at; cell-at = λ i j h k. λ v
         (i j : ℕ)
         → i < suc (length (l .agents))
         → j < length (l .users)
-        → Word 1792400000000000 1792400000000000 (floor (getD (VCs s l) i (pos 0) *ℤ getD (VDs s l) j (pos 0)) (sumℤ (VDs s l)))
+        → Word mostCredit mostCredit (floor (getD (VCs s l) i (pos 0) *ℤ getD (VDs s l) j (pos 0)) (sumℤ (VDs s l)))
     at i j h k =
-        word-within 1792400000000000 _
+        word-within mostCredit _
         (floor-share (getD (VCs s l) i (pos 0)) (getD (VDs s l) j (pos 0)) (sumℤ (VDs s l))
         (word-nonneg (b .VD j k))
         (entry-le-sum (VDs s l) j (b .VDs-nonneg) (omega (arith, length-VDs s l w)))

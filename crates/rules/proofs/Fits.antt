@@ -10,7 +10,7 @@ use Rattle.ints.specs.Range.{outside, Within, or-false, outside-false, within-f
 use Rattle.rules.specs.declared.Point.{Point}
 use Rattle.rules.specs.Verdict.{accepted}
 use Rattle.rules.specs.Calendar.{monthOfYear, impossibleMonth}
-use Rattle.rules.specs.Lines.{Agent, User, kindOf, badAgent, badUser, badPoint, unfitPoint}
+use Rattle.rules.specs.Lines.{Agent, User, kindOf, badAmounts, badBand, badAgent, badUser, badPoint, unfitPoint}
 use Rattle.rules.specs.Refusals.{pointTest}
 use Rattle.rules.specs.Ranges.{Amount, Correction, Tariff, Discount, Power, AmountsFit}
 use Rattle.rules.proofs.Tests.{when-accepted, when-then}
@@ -28,6 +28,21 @@ pub not-impossible : {m : ℤ} → Possible m → impossibleMonth m ≡ false
 unfolding impossibleMonth
 not-impossible p = rw (within-false _ _ _ (p .year), within-false _ _ _ (p .mm))
 
+-- four values of one kind, or of a band, each tested in turn
+amounts-within : {pb pv afs rfs : ℤ} → badAmounts pb pv afs rfs ≡ false → Amount pb × Amount pv × Amount afs × Amount rfs
+amounts-within e =
+    let e₃ = or-false _ _ e in
+    let e₂ = or-false _ _ (e₃ .0) in
+    let e₁ = or-false _ _ (e₂ .0) in
+    (outside-false _ _ _ (e₁ .0), outside-false _ _ _ (e₁ .1), outside-false _ _ _ (e₂ .1), outside-false _ _ _ (e₃ .1))
+
+band-within : {tariff discount contracted verified : ℤ} → badBand tariff discount contracted verified ≡ false → Tariff tariff × Discount discount × Power contracted × Power verified
+band-within e =
+    let e₃ = or-false _ _ e in
+    let e₂ = or-false _ _ (e₃ .0) in
+    let e₁ = or-false _ _ (e₂ .0) in
+    (outside-false _ _ _ (e₁ .0), outside-false _ _ _ (e₁ .1), outside-false _ _ _ (e₂ .1), outside-false _ _ _ (e₃ .1))
+
 -- the agent line at the position k, from 1
 pub record AgentFits (k : ℕ) (a : Agent) : Type 0 where
   pub number : a .number ≡ pos k
@@ -41,20 +56,18 @@ pub record AgentFits (k : ℕ) (a : Agent) : Type 0 where
 pub agent-fits : (k : ℕ) (a : Agent) → badAgent k a ≡ false → AgentFits k a
 unfolding badAgent
 agent-fits k a e =
-    let e₆ = or-false _ _ e in
-    let e₅ = or-false _ _ (e₆ .0) in
-    let e₄ = or-false _ _ (e₅ .0) in
-    let e₃ = or-false _ _ (e₄ .0) in
+    let e₃ = or-false _ _ e in
     let e₂ = or-false _ _ (e₃ .0) in
     let e₁ = or-false _ _ (e₂ .0) in
+    let m = amounts-within (e₁ .1) in
     record {
       number = eqZ-true _ _ (not-false _ (e₁ .0));
-      pb = outside-false _ _ _ (e₁ .1);
-      pv = outside-false _ _ _ (e₂ .1);
-      afs = outside-false _ _ _ (e₃ .1);
-      rfs = outside-false _ _ _ (e₄ .1);
-      pa = outside-false _ _ _ (e₅ .1);
-      ret = outside-false _ _ _ (e₆ .1);
+      pb = m .0;
+      pv = m .1;
+      afs = m .2;
+      rfs = m .3;
+      pa = outside-false _ _ _ (e₂ .1);
+      ret = outside-false _ _ _ (e₃ .1);
     }
 
 -- its amounts
@@ -88,23 +101,10 @@ pub record PointFits (p : Point) : Type 0 where
 pub point-fits : (p : Point) → badPoint p ≡ false → PointFits p
 unfolding badPoint
 point-fits p e =
-    let e₇ = or-false _ _ e in
-    let e₆ = or-false _ _ (e₇ .0) in
-    let e₅ = or-false _ _ (e₆ .0) in
-    let e₄ = or-false _ _ (e₅ .0) in
-    let e₃ = or-false _ _ (e₄ .0) in
-    let e₂ = or-false _ _ (e₃ .0) in
-    let e₁ = or-false _ _ (e₂ .0) in
-    record {
-      tp = outside-false _ _ _ (e₁ .0);
-      tf = outside-false _ _ _ (e₁ .1);
-      dp = outside-false _ _ _ (e₂ .1);
-      df = outside-false _ _ _ (e₃ .1);
-      mp = outside-false _ _ _ (e₄ .1);
-      mf = outside-false _ _ _ (e₅ .1);
-      vp = outside-false _ _ _ (e₆ .1);
-      vf = outside-false _ _ _ (e₇ .1);
-    }
+    let b = or-false _ _ e in
+    let peak = band-within (b .0) in
+    let off = band-within (b .1) in
+    record { tp = peak .0; tf = off .0; dp = peak .1; df = off .1; mp = peak .2; mf = off .2; vp = peak .3; vf = off .3 }
 
 -- a point among these users
 pub record PointPassed (users : List User) (p : Point) : Type 0 where

@@ -15,6 +15,7 @@ use Rattle.ints.specs.Range.{Within, or-false, outside-false, eqZ, eqZ-true, eq
 use Rattle.ints.specs.Sums.{sumℤ}
 use Rattle.rules.specs.declared.MonthLine.{MonthLine}
 use Rattle.rules.specs.Verdict.{Verdict, accepted, eachLine}
+use Rattle.rules.specs.Most.{mostHeld}
 use Rattle.rules.specs.Lines.{Lines, agentOf, userOf, pointOf}
 use Rattle.rules.specs.Charges.{pvTotal, EUSTs, VDs}
 use Rattle.rules.specs.Credits.{pbs}
@@ -40,7 +41,7 @@ pub record Passed (s : State) (l : Lines) : Type 0 where
   pub month : Possible (l .line .month)
   pub later : s .month <ℤ l .line .month
   -- 4: each held credit
-  pub credits : (j : ℕ) → j < length (s .credits) → Within (pos 0) (pos 100000000000000000) (getD (s .credits) j (pos 0))
+  pub credits : (j : ℕ) → j < length (s .credits) → Within (pos 0) (pos mostHeld) (getD (s .credits) j (pos 0))
   -- 5, 6, 7: each line, counted from 0
   pub ons : Amount (l .line .ons)
   pub agent : (i : ℕ) → i < length (l .agents) → AgentFits (suc i) (getD (l .agents) i (agentOf []))
@@ -119,7 +120,7 @@ month-after last month e = let f = or-false _ _ e in (possible _ (f .0), lt-out 
 pub record StatePassed (s : State) (line : MonthLine) : Type 0 where
   pub month : Possible (line .month)
   pub later : s .month <ℤ line .month
-  pub credits : (j : ℕ) → j < length (s .credits) → Within (pos 0) (pos 100000000000000000) (getD (s .credits) j (pos 0))
+  pub credits : (j : ℕ) → j < length (s .credits) → Within (pos 0) (pos mostHeld) (getD (s .credits) j (pos 0))
 
 pub state-passed : (s : State) (line : MonthLine) → stateTests s line ≡ accepted → StatePassed s line
 unfolding stateTests

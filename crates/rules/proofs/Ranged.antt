@@ -7,6 +7,7 @@ use mathlib.Core.List.{[]}
 use lib.ListN.{length, getD}
 use lib.IntN.{pos}
 use Rattle.ints.specs.Range.{Within}
+use Rattle.rules.specs.Most.{mostHeld}
 use Rattle.rules.specs.Lines.{Lines, agentOf, userOf, pointOf}
 use Rattle.rules.specs.State.{State}
 use Rattle.rules.specs.Tested.{Tested}
@@ -21,7 +22,7 @@ pub record Ranged (s : State) (l : Lines) : Type 0 where
   pub month : Possible (l .line .month)
   -- one held credit per user
   pub count : length (s .credits) ≡ length (l .users)
-  pub held : (j : ℕ) → j < length (s .credits) → Within (pos 0) (pos 100000000000000000) (getD (s .credits) j (pos 0))
+  pub held : (j : ℕ) → j < length (s .credits) → Within (pos 0) (pos mostHeld) (getD (s .credits) j (pos 0))
   pub ons : Amount (l .line .ons)
   pub agent : (i : ℕ) → i < length (l .agents) → AgentFits (suc i) (getD (l .agents) i (agentOf []))
   pub user : (j : ℕ) → j < length (l .users) → UserFits (suc j) (getD (l .users) j (userOf []))

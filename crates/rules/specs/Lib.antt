@@ -1,5 +1,6 @@
 -- Paper 01 as definitions, in the paper's order. A reader who holds the paper beside these pages needs to believe nothing else.
 pub mod Verdict
+pub mod Most
 pub mod Lists
 pub mod Calendar
 pub mod Lines

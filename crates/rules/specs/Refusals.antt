@@ -12,6 +12,7 @@ use Rattle.rules.specs.declared.MonthLine.{MonthLine}
 use Rattle.rules.specs.declared.Point.{Point}
 use Rattle.rules.specs.Verdict.{Verdict, when, _then_, eachLine}
 use Rattle.rules.specs.Calendar.{impossibleMonth}
+use Rattle.rules.specs.Most.{mostHeld}
 use Rattle.rules.specs.Lines.{Agent, User, Lines, kindOf, badAmount, badAgent, badUser, badPoint, unfitPoint}
 use Rattle.rules.specs.State.{State}
 use Rattle.rules.specs.Charges.{pvTotal, EUSTs, VDs}
@@ -61,7 +62,7 @@ badMonth last month = impossibleMonth month || leZ month last
 
 -- 4: a held credit below 0 or above 10^17; place its user
 abbrev pub creditTest : ℕ → ℤ → Verdict
-creditTest k credit = when (outside (pos 0) (pos 100000000000000000) credit) 4 k
+creditTest k credit = when (outside (pos 0) (pos mostHeld) credit) 4 k
 
 -- each line for 5, 6, 7: a value out of range; a point's user that does not exist; a generator's f column or a distributor's
 -- discount not 0

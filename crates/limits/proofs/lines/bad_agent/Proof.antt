@@ -13,7 +13,7 @@ use Rattle.limits.proofs.lines.bad_agent.Tie as tie
 returns : tie.Need-returns
 unfolding badAgent
 returns c =
-    let l = c .before .before .before .before .before .before .before .before .before .before .before .before .before .before .args .t2 in
+    let l = c .before .before .before .before .before .before .before .before .before .before .before .args .t2 in
     let a : SFits w64 (getD l 0 (pos 0)) = search needs in
     let b : SFits w64 (getD l 1 (pos 0)) = search needs in
     let d : SFits w64 (getD l 2 (pos 0)) = search needs in
@@ -21,7 +21,7 @@ returns c =
     let f : SFits w64 (getD l 4 (pos 0)) = search needs in
     let g : SFits w64 (getD l 5 (pos 0)) = search needs in
     let h : SFits w64 (getD l 6 (pos 0)) = search needs in
-    cc (toZ-ofZ a, toZ-ofZ b, toZ-ofZ d, toZ-ofZ e, toZ-ofZ f, toZ-ofZ g, toZ-ofZ h)
+    simp (c .before .before .before .before .before .before .before .before .before .is-number .ensures, c .before .before .before .before .bad-amounts .ensures, c .before .before .bad-correction .ensures, c .bad-correction2 .ensures, toZ-ofZ, a, b, d, e, f, g, h)
 
 pub bad-agent-spec : {M : Type 1} → statement M
 bad-agent-spec =
@@ -30,11 +30,8 @@ bad-agent-spec =
     (λ c. search needs)
     (λ c κs. search needs)
     (λ c. search needs)
-    (λ c κs. search needs)
     (λ c. search needs)
-    (λ c κs. search needs)
     (λ c. search needs)
-    (λ c κs. search needs)
     (λ c. search needs)
     (λ c κs. search needs)
     (λ c. search needs)
