@@ -33,13 +33,13 @@ module _ {M : Type 1} (𝓤 : URA M) (H : Heap 𝓤) (𝓜 : Model 𝓤 H) (𝓖
   pub open-meets : Meets 𝓤 H (𝓖 .A) open'.signature (𝓡 .run open-code.routine) open-promise
   open-meets = open-met.met 𝓤 H 𝓜 𝓖 𝓡
 
-  -- close(ledger, held, month, ons, agents, users, points, cells, work)
+  -- close(ledger, held, line, agents, users, points, cells, work)
   abbrev pub close-promise : Spec 𝓤 close.signature
   close-promise κs a =
       let held = a .1 .0 in
       let b = a .1 .1 in
-      let cells = b .1 .1 .1 .1 .1 .0 in
-      let work = b .1 .1 .1 .1 .1 .1 .0 in
+      let cells = b .1 .1 .1 .1 .0 in
+      let work = b .1 .1 .1 .1 .1 .0 in
       record {
         ghost = Unit {0};
         requires = λ g. emp 𝓤;
@@ -47,9 +47,9 @@ module _ {M : Type 1} (𝓤 : URA M) (H : Heap 𝓤) (𝓜 : Model 𝓤 H) (𝓖
             exits 𝓤 H (𝓖 .A) close.signature (close.ended .kept) κs a
             (λ e.
             fact 𝓤
-            (Closes (a .0) (now held) (monthLines (b .0) (b .1 .0) (now (b .1 .1 .0)) (now (b .1 .1 .1 .0)) (now (b .1 .1 .1 .1 .0))) (now cells) (now work) r (now (e .1 .0))
-            (now (e .1 .1 .1 .1 .1 .1 .1 .0))
-            (now (e .1 .1 .1 .1 .1 .1 .1 .1 .0))));
+            (Closes (a .0) (now held) (monthLines (b .0 .month) (b .0 .ons) (now (b .1 .0)) (now (b .1 .1 .0)) (now (b .1 .1 .1 .0))) (now cells) (now work) r (now (e .1 .0))
+            (now (e .1 .1 .1 .1 .1 .1 .0))
+            (now (e .1 .1 .1 .1 .1 .1 .1 .0))));
       }
 
   pub close-meets : Meets 𝓤 H (𝓖 .A) close.signature (𝓡 .run close-code.routine) close-promise

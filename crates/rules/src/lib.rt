@@ -6,10 +6,12 @@ pub struct MonthLine {
     pub ons: i64,
 }
 
-// An agent's and a user's line: its values in the order of the columns, which `columns` names.
+// An agent's, a user's and a point's line: its values in the order of the columns, which `columns` names.
 pub type AgentLine = [i64; 7];
 
 pub type UserLine = [i64; 3];
+
+pub type PointLine = [i64; 9];
 
 pub mod columns;
 
