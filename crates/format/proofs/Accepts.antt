@@ -9,7 +9,8 @@ use borrow.Author.Tests.{eqb-true}
 use Rattle.format.specs.Bytes.{m}
 use Rattle.format.specs.Blocks.{one, any, upTo, free}
 use Rattle.format.specs.Grammar.{more, line, blocksText, File, fileText, Files, last, then}
-use Rattle.format.specs.Machine.{Item, byte, lines, format, State, stuck, at, value, enter, step, ended, final, endsBefore, start, onward, run, From, Accepted}
+use Rattle.format.specs.Machine.{Item, byte, end, lines, format, State, stuck, at, value, enter, step, ended, final, endsBefore, start, onward}
+use Rattle.format.specs.Machine.{run, From, Accepted}
 use Rattle.format.proofs.Live.{not-both, dead}
 use Rattle.format.proofs.Sound.{OneFile, sound}
 use Rattle.format.proofs.Takes.{takes}
@@ -23,6 +24,7 @@ no-m : (f : List Item) → ended f ≡ true → enter f m ≡ stuck
 unfolding enter
 no-m [] e = refl
 no-m (byte c ∷ f) e = not-both false refl e
+no-m (end ∷ f) e = not-both false refl e
 no-m (lines one k ∷ f) e = not-both false refl e
 no-m (lines any k ∷ f) e = no-m f e
 no-m (lines (upTo zero) k ∷ f) e = no-m f e

@@ -1,23 +1,25 @@
 -- READING, in paper 01's words: its answer is what paper 01 says, and paper 01's words leave no other. Assumes nothing.
 use Prim.Native.Nat.{ℕ, suc, _+_, _≤_, _<_, min}
 use mathlib.Core.Path.{_≡_, refl, ap, sym, _∙_, subst}
-use mathlib.Core.Logic.{_↔_}
+use mathlib.Core.Logic.{_↔_, inl, inr}
 use mathlib.Core.Bool.{true}
-use mathlib.Core.List.{List, _++_}
+use mathlib.Core.List.{List, [], _∷_, _++_}
 use native.Mathlib.Omega.{arith}
 use native.Mathlib.Decide.{decLe}
 use lib.ListN.{length, take, drop, getD, length-append}
 use lib.Seq.{drop-append-seam}
+use lib.IntN.{ℤ}
 use Rattle.format.specs.Bytes.{startsLine}
-use Rattle.format.specs.Blocks.{Rooms, free, slices, blocks}
-use Rattle.format.specs.Grammar.{File, fileText, Fits}
+use Rattle.format.specs.Blocks.{Slices, free, blocks}
+use Rattle.format.specs.Grammar.{File, kindsOf, fileText, Fits, Few, fits-slices}
 use Rattle.format.specs.Machine.{State, start}
 use Rattle.format.specs.Language.{Begins, Place, Follows, Stands}
 use Rattle.format.specs.Values.{readBlocks, fileOf}
-use Rattle.format.specs.Reading.{scan, scanAt, Answer, accepted, refused, answer, reading, Over, moreAgents, moreUsers, morePoints, Exceeds, Read, Why, faulty, tooLong, Back, Says}
+use Rattle.format.specs.Reading.{scan, scanAt, ReadingAnswer, accepted, refused, answer, reading, Over, Exceeds, Read, Why, faulty, tooLong}
+use Rattle.format.specs.Reading.{Back, Says}
 use Rattle.format.specs.declared.Scanned.{Scanned}
 use Rattle.format.specs.declared.Scanned.the-variants.{Whole, Faulty, Full}
-use Rattle.format.proofs.Live.{sound-format}
+use Rattle.format.proofs.Table.{sound-format}
 use Rattle.format.proofs.Places.{Later, one-place, no-place, same-place}
 use Rattle.format.proofs.Sound.{sound}
 use Rattle.format.proofs.Values.{values-back}
@@ -25,25 +27,26 @@ use Rattle.format.proofs.Scans.{Rests, rests-stands, Claim, claim}
 use Rattle.format.proofs.Wide.{wide, wide-start, Longer, Wider, wider}
 
 -- a file that the slices do not take has more lines of a kind than its slice takes
-over : (a u p : ℕ) (f : File) → Fits free f → (Fits (slices a u p) f → ⊥) → Over a u p f
-over a u p f x n = by (decLe (length (f .agents)) a) (decLe (length (f .users)) u) (decLe (length (f .points)) p)
+over : (r : Slices) (w : List (List (List ℤ))) → (Few r w → ⊥) → Over r w
+over [] w n = absurd (n tt)
+over (k ∷ r) [] n = absurd (n tt)
+over (k ∷ r) (ls ∷ w) n = by (decLe (length ls) k) (over r w)
   where
-    by : Dec (length (f .agents) ≤ a) → Dec (length (f .users) ≤ u) → Dec (length (f .points) ≤ p) → Over a u p f
-    by (no h) d e = moreAgents (omega (arith, h))
-    by (yes g) (no h) e = moreUsers (omega (arith, h))
-    by (yes g) (yes h) (no i) = morePoints (omega (arith, i))
-    by (yes g) (yes h) (yes i) = absurd (n (x .0, x .1, (x .2 .0, g, (x .2 .2 .0, h, (x .2 .2 .2 .0, i, tt)))))
+    by : Dec (length ls ≤ k) → ((Few r w → ⊥) → Over r w) → Over (k ∷ r) (ls ∷ w)
+    by (no h) o = inl (omega (arith, h))
+    by (yes h) o = inr (o (λ f. n (h, f)))
 
 -- and it is no file that the slices take
-pub not-over : (a u p : ℕ) (f : File) → Fits (slices a u p) f → Over a u p f → ⊥
-not-over a u p f x (moreAgents h) = omega (arith, x .2 .1)
-not-over a u p f x (moreUsers h) = omega (arith, x .2 .2 .1)
-not-over a u p f x (morePoints h) = omega (arith, x .2 .2 .2 .1)
+not-few : (r : Slices) (w : List (List (List ℤ))) → Over r w → Few r w → ⊥
+not-few [] w o f = o
+not-few (k ∷ r) [] o f = o
+not-few (k ∷ r) (ls ∷ w) (inl h) f = omega (arith, f .0)
+not-few (k ∷ r) (ls ∷ w) (inr o) f = not-few r w o (f .1)
 
-module _ (a u p : ℕ) (t : List ℕ) (from : ℕ) where
-  abbrev r : Rooms
-  r = slices a u p
+pub not-over : (r : Slices) (f : File) → Fits r f → Over r (kindsOf f) → ⊥
+not-over r f x o = not-few r (kindsOf f) o (fits-slices r f .0 x .1)
 
+module _ (r : Slices) (t : List ℕ) (from : ℕ) where
   abbrev s : List ℕ
   s = drop from t
 
@@ -51,13 +54,13 @@ module _ (a u p : ℕ) (t : List ℕ) (from : ℕ) where
   k = min from (length t)
 
   -- a file was read
-  read-whole : (n : ℕ) → Claim (start r) s k (Whole n) → Read a u p t from (fileOf (readBlocks (blocks r) s .got)) n
+  read-whole : (n : ℕ) → Claim (start r) s k (Whole n) → Read r t from (fileOf (readBlocks (blocks r) s .got)) n
   read-whole n c =
       let o = sound r (c .rests .first) (c .rests .whole) in
       let e : s ≡ fileText (o .file) ++ c .rests .rest = c .rests .is ∙ ap (λ (x : List ℕ). x ++ c .rests .rest) (o .is) in
       let v : fileOf (readBlocks (blocks r) s .got) ≡ o .file =
       ap (λ (x : List ℕ). fileOf (readBlocks (blocks r) x .got)) e ∙ values-back r (o .file) (c .rests .rest) (o .fits) (c .rests .follows) in
-      subst (λ (f : File). Read a u p t from f n) (sym v)
+      subst (λ (f : File). Read r t from f n) (sym v)
       (record {
         fits = o .fits;
         rest = c .rests .rest;
@@ -66,18 +69,18 @@ module _ (a u p : ℕ) (t : List ℕ) (from : ℕ) where
         next-is = c .here ∙ ap (λ (x : List ℕ). k + length x) (o .is);
       })
 
-  place-of : (r' : Rooms) (q : ℕ) → Place (Rests (start r')) s q → Place (Stands r') s q
+  place-of : (r' : Slices) (q : ℕ) → Place (Rests (start r')) s q → Place (Stands r') s q
   place-of r' q a = same-place (Rests (start r')) (Stands r') (rests-stands r') s q a
 
   -- 11 with any room
   free-place : (n q : ℕ) → n ≡ k + q → scan (wide (start r)) k s ≡ Faulty n → Place (Stands free) s q
   free-place n q e w =
-      let w' : scan (start free) k s ≡ Faulty n = ap (λ (x : State). scan x k s) (sym (wide-start a u p)) ∙ w in
+      let w' : scan (start free) k s ≡ Faulty n = ap (λ (x : State). scan x k s) (sym (wide-start r)) ∙ w in
       let l : Later (Rests (start free)) s k n = subst (Claim (start free) s k) w' (claim (start free) (sound-format free) refl k s) in
       let h : l .past ≡ q = omega (arith, l .here) in
       subst (Place (Stands free) s) h (place-of free (l .past) (l .place))
 
-  back-faulty : (n : ℕ) → Claim (start r) s k (Faulty n) → Wider (start r) s k (Faulty n) → Back a u p t from 11 n
+  back-faulty : (n : ℕ) → Claim (start r) s k (Faulty n) → Wider (start r) s k (Faulty n) → Back r t from 11 n
   back-faulty n c w =
       record {
         past = c .past;
@@ -92,26 +95,26 @@ module _ (a u p : ℕ) (t : List ℕ) (from : ℕ) where
       → q < length s
       → Place (Stands r) s q
       → Begins (Rests (wide (start r))) (take (suc q) s)
-      → Begins (Exceeds a u p) (take (suc q) s)
+      → Begins (Exceeds r) (take (suc q) s)
   exceeds q h c w =
       let x : Stands free (take (suc q) s ++ w .rest) =
       rests-stands free (take (suc q) s ++ w .rest) .0
-      (subst (λ (y : State). Rests y (take (suc q) s ++ w .rest)) (wide-start a u p) (w .whole)) in
+      (subst (λ (y : State). Rests y (take (suc q) s ++ w .rest)) (wide-start r) (w .whole)) in
       record {
         rest = w .rest;
         whole = record {
           stands = x;
           over =
-              over a u p (x .file) (x .fits)
-              (λ fit. c .through h
+              over r (kindsOf (x .file))
+              (λ few. c .through h
               (record {
                 rest = w .rest;
-                whole = record { file = x .file; rest = x .rest; fits = fit; follows = x .follows; is = x .is };
+                whole = record { file = x .file; rest = x .rest; fits = fits-slices r (x .file) .1 (x .fits, few); follows = x .follows; is = x .is };
               }));
         };
       }
 
-  back-full : (n : ℕ) → Claim (start r) s k (Full n) → Longer (start r) s k n → Back a u p t from 12 n
+  back-full : (n : ℕ) → Claim (start r) s k (Full n) → Longer (start r) s k n → Back r t from 12 n
   back-full n c l =
       let e : l .past ≡ c .past = omega (arith, c .here, l .here) in
       let f = place-of r (c .past) (c .place) in
@@ -127,7 +130,7 @@ module _ (a u p : ℕ) (t : List ℕ) (from : ℕ) where
       }
 
   -- READING'S ANSWER IS WHAT PAPER 01 SAYS
-  pub reads : Says a u p t from (reading (slices a u p) t from)
+  pub reads : Says r t from (reading r t from)
   unfolding reading scanAt
   reads = by (scan (start r) k s) (claim (start r) (sound-format r) refl k s) (wider (start r) (sound-format r) k s)
     where
@@ -135,33 +138,33 @@ module _ (a u p : ℕ) (t : List ℕ) (from : ℕ) where
           (v : Scanned)
           → Claim (start r) s k v
           → Wider (start r) s k v
-          → Says a u p t from (answer (fileOf (readBlocks (blocks r) s .got)) v)
+          → Says r t from (answer (fileOf (readBlocks (blocks r) s .got)) v)
       by (Whole n) c w = read-whole n c
       by (Faulty n) c w = back-faulty n c w
       by (Full n) c w = back-full n c w
 
   -- what is read stands there
-  stands : (f : File) (n : ℕ) → Read a u p t from f n → Stands r s
+  stands : (f : File) (n : ℕ) → Read r t from f n → Stands r s
   stands f n x = record { file = f; rest = x .rest; fits = x .fits; follows = x .follows; is = x .is }
 
-  same-file : (f g : File) (n o : ℕ) → Read a u p t from f n → Read a u p t from g o → f ≡ g
+  same-file : (f g : File) (n o : ℕ) → Read r t from f n → Read r t from g o → f ≡ g
   same-file f g n o x y =
       sym (values-back r f (x .rest) (x .fits) (x .follows))
       ∙ ap (λ (z : List ℕ). fileOf (readBlocks (blocks r) z .got)) (sym (x .is) ∙ y .is)
       ∙ values-back r g (y .rest) (y .fits) (y .follows)
 
   -- no byte is 11 and 12 at once
-  not-both : (q : ℕ) → Place (Stands free) s q → q < length s → Begins (Exceeds a u p) (take (suc q) s) → ⊥
+  not-both : (q : ℕ) → Place (Stands free) s q → q < length s → Begins (Exceeds r) (take (suc q) s) → ⊥
   not-both q a h b = a .through h (record { rest = b .rest; whole = b .whole .stands })
 
-  same-number : (q c d : ℕ) → Why a u p s q c → Why a u p s q d → c ≡ d
+  same-number : (q c d : ℕ) → Why r s q c → Why r s q d → c ≡ d
   same-number q c d (faulty e x) (faulty f y) = e ∙ sym f
   same-number q c d (faulty e x) (tooLong f h b y) = absurd (not-both q x h y)
   same-number q c d (tooLong e h b x) (faulty f y) = absurd (not-both q y h x)
   same-number q c d (tooLong e h b x) (tooLong f i g y) = e ∙ sym f
 
   -- PAPER 01'S WORDS LEAVE ONE ANSWER
-  pub one-answer : (x y : Answer) → Says a u p t from x → Says a u p t from y → x ≡ y
+  pub one-answer : (x y : ReadingAnswer) → Says r t from x → Says r t from y → x ≡ y
   one-answer (accepted f n) (accepted g o) c d =
       let e = same-file f g n o c d in
       let h : n ≡ o = c .next-is ∙ ap (λ (z : File). k + length (fileText z)) e ∙ sym (d .next-is) in
@@ -171,25 +174,25 @@ module _ (a u p : ℕ) (t : List ℕ) (from : ℕ) where
   one-answer (refused c q) (refused d o) x y =
       let e : x .past ≡ y .past = one-place (Stands r) s (x .past) (y .past) (x .first) (y .first) in
       let h : q ≡ o = x .place-is ∙ ap (λ (z : ℕ). k + z) e ∙ sym (y .place-is) in
-      let i : c ≡ d = same-number (y .past) c d (subst (λ (z : ℕ). Why a u p s z c) e (x .why)) (y .why) in
+      let i : c ≡ d = same-number (y .past) c d (subst (λ (z : ℕ). Why r s z c) e (x .why)) (y .why) in
       ap (λ (z : ℕ). refused z q) i ∙ ap (refused d) h
 
   -- so reading's answer is x exactly where paper 01 says x
-  pub reading-is : (x : Answer) → (reading (slices a u p) t from ≡ x) ↔ Says a u p t from x
-  reading-is x = (λ e. subst (Says a u p t from) e reads, λ c. one-answer (reading (slices a u p) t from) x reads c)
+  pub reading-is : (x : ReadingAnswer) → (reading r t from ≡ x) ↔ Says r t from x
+  reading-is x = (λ e. subst (Says r t from) e reads, λ c. one-answer (reading r t from) x reads c)
 
 -- THE ROUND TRIP: wherever the text of a file stands that the slices take, and the text ends after it or goes on with an `m`, that file is
 -- read, and the next position is the first byte after it
 pub round-trip :
-    (a u p : ℕ) (f : File) (before after : List ℕ)
-    → Fits (slices a u p) f
+    (r : Slices) (f : File) (before after : List ℕ)
+    → Fits r f
     → Follows after
-    → reading (slices a u p) (before ++ (fileText f ++ after)) (length before) ≡ accepted f (length before + length (fileText f))
-round-trip a u p f before after x e =
+    → reading r (before ++ (fileText f ++ after)) (length before) ≡ accepted f (length before + length (fileText f))
+round-trip r f before after x e =
     let t : List ℕ = before ++ (fileText f ++ after) in
     let n : length t ≡ length before + length (fileText f ++ after) = length-append before (fileText f ++ after) in
     let h : length before ≡ min (length before) (length t) = omega arith in
-    reading-is a u p t (length before) (accepted f (length before + length (fileText f))) .1
+    reading-is r t (length before) (accepted f (length before + length (fileText f))) .1
     (record {
       fits = x;
       rest = after;

@@ -32,7 +32,7 @@ module _ (g : List Item → List Item) where
     with-lead : (k : ℕ) (f : List Item) → lead k (g f) b ≡ with g (lead k f b)
     with-lead k f = with-cond (isLead b) (value (digits 1) k f) stuck _ _ refl refl
 
-    with-ends : (k : ℕ) (f : List Item) → ends k (g f) b ≡ with g (ends k f b)
+    pub with-ends : (k : ℕ) (f : List Item) → ends k (g f) b ≡ with g (ends k f b)
     with-ends zero f = with-cond (eqb b lf) (at f) stuck _ _ refl refl
     with-ends (suc k) f = with-cond (eqb b comma) (value fresh k f) stuck _ _ refl refl
 

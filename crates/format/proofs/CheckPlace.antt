@@ -1,75 +1,106 @@
 -- THE FILE CHECK'S PLACE IS READING'S: where reading, with slices as long as the text, reads file after file and one comes back, it comes
 -- back with 11, and the file check answers that place; and where no file comes back all are read. Assumes nothing.
+use Prim.Native.String.{String}
 use Prim.Native.Nat.{ℕ, zero, suc, _+_, _-_, _≤_, _<_, min}
 use mathlib.Core.Path.{_≡_, refl, ap, sym, _∙_, subst}
 use mathlib.Core.Logic.{_↔_, _⊎_, inl, inr, ⊎-elim}
 use mathlib.Core.Bool.{Bool, true, false, cond, _&&_}
-use mathlib.Core.List.{List, [], _∷_}
+use mathlib.Core.List.{List, [], _∷_, _++_, map}
 use native.Mathlib.Omega.{arith}
 use native.Mathlib.Decide.{decLe}
-use lib.Dec.{leb, eqb}
 use lib.ListN.{length, drop, length-drop, drop-of-length-le}
 use lib.Seq.{drop-drop}
 use lib.IntN.{pos, negsuc}
-use borrow.Author.Tests.{leb-true}
-use Rattle.format.specs.Bytes.{startsLine}
-use Rattle.format.specs.Blocks.{free, slices, blocks}
-use Rattle.format.specs.Grammar.{line, File}
-use Rattle.format.specs.Machine.{State, stuck, at, value, isStuck, step, final, endsBefore, format, start, onward, Verdict, passes, fails, judge, number, checkOf}
-use Rattle.format.specs.Reading.{tooMany, scan, scanAt, Answer, accepted, refused, answer, reading, ReadsOn, last, then, ComesBack, here, further}
+use borrow.Author.Tests.{ne-eqb}
+use Rattle.format.specs.Bytes.{bytes}
+use Rattle.format.specs.Blocks.{one, any, upTo, month, kinds, Slices, free, blocksOf, blocks}
+use Rattle.format.specs.Grammar.{more, entries, line, File}
+use Rattle.format.specs.Machine.{Item, byte, end, lines, laidOut, State, stuck, at, value, isStuck, step, final, endsBefore, format, start}
+use Rattle.format.specs.Machine.{onward, TextVerdict, passes, fails, judge, number, checkOf}
+use Rattle.format.specs.Reading.{noRoom, tooMany, scan, scanAt, ReadingAnswer, accepted, refused, answer, reading, ReadsOn, last, then}
+use Rattle.format.specs.Reading.{ComesBack, here, further}
 use Rattle.format.specs.Values.{readBlocks, fileOf}
-use Rattle.format.specs.Counting.{many, after, capacity, full, counted, scanBy}
 use Rattle.format.specs.declared.Scanned.{Scanned}
 use Rattle.format.specs.declared.Scanned.the-variants.{Whole, Faulty, Full}
-use Rattle.format.proofs.Live.{not-both, both, sound-format}
+use Rattle.format.proofs.Live.{Holds, Kept, keep-step}
+use Rattle.format.proofs.Table.{sound-format}
 use Rattle.format.proofs.Accepts.{within, beyond}
 use Rattle.format.proofs.FileCheck.{check-within}
 use Rattle.format.proofs.Wide.{wide, wide-start, Wider, wider}
-use Rattle.format.proofs.Counts.{counts}
-use Rattle.format.proofs.FileByFile.{next-within, checked-by-reading}
+use Rattle.format.proofs.FileByFile.{AtLeast, next-within, checked-by-reading}
 
 -- two verdicts are not one
 no-fault : (k p : ℕ) → Whole k ≡ Faulty p → ⊥
 no-fault k p e = let z : _≡_ {A = ℕ} 0 1 = cc in omega arith
 
 -- SLICES AS LONG AS THE TEXT ARE NEVER TOO SHORT: each line begun is a byte read
-module _ (room : ℕ → ℕ) where
-  full-room : (s : State) (n b : ℕ) → full room s n b ≡ true → (j : ℕ) × (room j ≤ n)
-  full-room stuck n b e = not-both false refl e
-  full-room (at f) n b e = (after f, leb-true (room (after f)) n (both (many f && startsLine b) (leb (room (after f)) n) e .1))
-  full-room (value p k f) n b e = not-both false refl e
+-- every block has room for so many lines
+abbrev Roomy : ℕ → List Item → Type 0
+Roomy n [] = Unit {0}
+Roomy n (byte c ∷ f) = Roomy n f
+Roomy n (end ∷ f) = Roomy n f
+Roomy n (lines one k ∷ f) = Roomy n f
+Roomy n (lines any k ∷ f) = Roomy n f
+Roomy n (lines (upTo r) k ∷ f) = (n ≤ r) × Roomy n f
 
-  one-more : (q : Bool) (n : ℕ) → cond q (n + 1) 0 ≤ n + 1
-  one-more true n = omega arith
-  one-more false n = omega arith
+module _ (n : ℕ) where
+  roomy-tail : (i : Item) (f : List Item) → Roomy n (i ∷ f) → Roomy n f
+  roomy-tail (byte c) f a = a
+  roomy-tail end f a = a
+  roomy-tail (lines one k) f a = a
+  roomy-tail (lines any k) f a = a
+  roomy-tail (lines (upTo r) k) f a = a .1
 
-  counted-most : (s : State) (n b : ℕ) → counted s n b ≤ n + 1
-  counted-most stuck n b = omega arith
-  counted-most (at f) n b = one-more (many f && startsLine b) n
-  counted-most (value p k f) n b = omega arith
+  roomy-less : (f : List Item) → Roomy (suc n) f → Roomy n f
+  roomy-less [] a = tt
+  roomy-less (byte c ∷ f) a = roomy-less f a
+  roomy-less (end ∷ f) a = roomy-less f a
+  roomy-less (lines one k ∷ f) a = roomy-less f a
+  roomy-less (lines any k ∷ f) a = roomy-less f a
+  roomy-less (lines (upTo r) k ∷ f) a = (omega (arith, a .0), roomy-less f (a .1))
 
-  full-late : (s : State) (n k : ℕ) (t : List ℕ) (q : ℕ) → scanBy room s n k t ≡ Full q → (j : ℕ) × (room j < n + length t)
-  unfolding scanBy
-  full-late s n k [] q e = by (final s) e
-    where
-      by : (f : Bool) → cond f (Whole k) (Faulty k) ≡ Full q → (j : ℕ) × (room j < n + 0)
-      by true e = let z : _≡_ {A = ℕ} 0 1 = cc in absurd (omega arith)
-      by false e = let z : _≡_ {A = ℕ} 0 1 = cc in absurd (omega arith)
-  full-late s n k (b ∷ t) q e =
-      by (endsBefore s b) (full room s n b) (isStuck (step s b)) refl e (full-late (step s b) (counted s n b) (k + 1) t q)
-    where
-      by : (o f d : Bool) → full room s n b ≡ f
-          → cond o (Whole k) (cond f (Full k) (cond d (Faulty k) (scanBy room (step s b) (counted s n b) (k + 1) t))) ≡ Full q
-          → (scanBy room (step s b) (counted s n b) (k + 1) t ≡ Full q → (j : ℕ) × (room j < counted s n b + length t))
-          → (j : ℕ) × (room j < n + suc (length t))
-      by true f d x e r = let z : _≡_ {A = ℕ} 0 1 = cc in absurd (omega arith)
-      by false true d x e r = let c = full-room s n b x in (c .0, omega (arith, c .1))
-      by false false true x e r = let z : _≡_ {A = ℕ} 0 1 = cc in absurd (omega arith)
-      by false false false x e r = let c = r e in (c .0, omega (arith, c .1, counted-most s n b))
+-- with every byte one line less
+roomy-kept : (n : ℕ) → Kept (Roomy (suc n)) (Roomy n)
+roomy-kept n =
+    record {
+      tail = roomy-tail (suc n);
+      so = roomy-less n;
+      less = λ r k f a. (omega (arith, a .0), roomy-less n f (a .1));
+    }
+
+-- where there is room for a line, none is too many
+roomy-enough : (n b : ℕ) (s : State) → Holds (Roomy (suc n)) s → tooMany s b ≡ false
+roomy-enough n b stuck a = refl
+roomy-enough n b (at f) a = rw (room f a)
+  where
+    room : (f : List Item) → Roomy (suc n) f → noRoom f ≡ false
+    room [] a = refl
+    room (byte c ∷ f) a = refl
+    room (end ∷ f) a = refl
+    room (lines one k ∷ f) a = refl
+    room (lines any k ∷ f) a = refl
+    room (lines (upTo r) k ∷ f) a = ne-eqb r 0 (λ e. omega (arith, a .0))
+roomy-enough n b (value p k f) a = refl
+
+never-full : (s : State) (k : ℕ) (t : List ℕ) → Holds (Roomy (length t)) s → (q : ℕ) → scan s k t ≡ Full q → ⊥
+unfolding scan
+never-full s k [] a q e = by (final s) e
+  where
+    by : (f : Bool) → cond f (Whole k) (Faulty k) ≡ Full q → ⊥
+    by true e = let z : _≡_ {A = ℕ} 0 1 = cc in omega arith
+    by false e = let z : _≡_ {A = ℕ} 0 1 = cc in omega arith
+never-full s k (b ∷ t) a q e =
+    by (endsBefore s b) (isStuck (step s b)) (rw (roomy-enough (length t) b s a) at e)
+    (never-full (step s b) (k + 1) t (keep-step (Roomy (suc (length t))) (Roomy (length t)) (roomy-kept (length t)) b s a) q)
+  where
+    by : (o d : Bool) → cond o (Whole k) (cond d (Faulty k) (scan (step s b) (k + 1) t)) ≡ Full q → (scan (step s b) (k + 1) t ≡ Full q → ⊥) → ⊥
+    by true d e r = let z : _≡_ {A = ℕ} 0 1 = cc in omega arith
+    by false true e r = let z : _≡_ {A = ℕ} 0 1 = cc in omega arith
+    by false false e r = r e
 
 -- THE FILE CHECK GOES FILE BY FILE
 -- from the end of a file on
-abbrev goesOn : ℕ → List ℕ → Verdict
+abbrev goesOn : ℕ → List ℕ → TextVerdict
 goesOn n [] = passes
 goesOn n (b ∷ t) = judge (start free) n (b ∷ t)
 
@@ -138,54 +169,62 @@ same-end s k (b ∷ t) n e = by (endsBefore s b) (tooMany s b) (isStuck (step s 
         record { past = suc (g .past); here = g .here ∙ omega arith; goes = judge-on s b t k x ∙ rw y (g .goes) }
 
 -- WITH SLICES AS LONG AS THE TEXT
-module _ (a u p : ℕ) (t : List ℕ) (ha : length t ≤ a) (hu : length t ≤ u) (hp : length t ≤ p) where
-  enough : (j : ℕ) → length t ≤ capacity a u p j
-  enough j = by (eqb j 0) (eqb j 1)
-    where
-      by : (x y : Bool) → length t ≤ cond x p (cond y u a)
-      by true y = hp
-      by false true = hu
-      by false false = ha
+-- what is laid out for slices of such lengths has as much room
+roomy-names : (n : ℕ) (ns : List ℕ) (f : List Item) → Roomy n f → Roomy n (map byte ns ++ f)
+roomy-names n [] f a = a
+roomy-names n (c ∷ ns) f a = roomy-names n ns f a
 
-  never-full : (k from q : ℕ) → scan (start (slices a u p)) k (drop from t) ≡ Full q → ⊥
-  never-full k from q e =
-      let c = full-late (capacity a u p) (start free) 0 k (drop from t) q (sym (counts a u p k (drop from t)) ∙ e) in
-      omega (arith, c .1, enough (c .0), length-drop from t)
+roomy-kinds : (n : ℕ) (ks : List (List String)) (r : Slices) → AtLeast n r → Roomy n (laidOut (blocksOf ks r))
+roomy-kinds n [] r h = tt
+roomy-kinds n (k ∷ ks) [] h = roomy-names n (entries (map bytes k)) _ (roomy-kinds n ks [] h)
+roomy-kinds n (k ∷ ks) (m ∷ r) h = roomy-names n (entries (map bytes k)) _ (h .0, roomy-kinds n ks r (h .1))
+
+roomy-start : (n : ℕ) (r : Slices) → AtLeast n r → Roomy n (format r)
+unfolding format
+roomy-start n r h = roomy-names n (entries (map bytes month)) _ (roomy-kinds n kinds r h)
+
+module _ (r : Slices) (t : List ℕ) (wide-enough : AtLeast (length t) r) where
+  at-least : (n : ℕ) (r : Slices) → n ≤ length t → AtLeast (length t) r → AtLeast n r
+  at-least n [] h a = tt
+  at-least n (k ∷ r) h a = (omega (arith, a .0), at-least n r h (a .1))
+
+  roomy : (from : ℕ) → Roomy (length (drop from t)) (format r)
+  roomy from = roomy-start (length (drop from t)) r (at-least (length (drop from t)) r (omega (arith, length-drop from t)) wide-enough)
 
   -- reading's verdict is that with any room
-  wide-verdict : (k from : ℕ) (v : Scanned) → scan (start (slices a u p)) k (drop from t) ≡ v → scan (start free) k (drop from t) ≡ v
+  wide-verdict : (k from : ℕ) (v : Scanned) → scan (start r) k (drop from t) ≡ v → scan (start free) k (drop from t) ≡ v
   wide-verdict k from v e =
-      ap (λ (s : State). scan s k (drop from t)) (sym (wide-start a u p))
-      ∙ by v e (subst (Wider (start (slices a u p)) (drop from t) k) e (wider (start (slices a u p)) (sound-format (slices a u p)) k (drop from t)))
+      ap (λ (s : State). scan s k (drop from t)) (sym (wide-start r))
+      ∙ by v e (subst (Wider (start r) (drop from t) k) e (wider (start r) (sound-format r) k (drop from t)))
     where
-      by : (v : Scanned) → scan (start (slices a u p)) k (drop from t) ≡ v → Wider (start (slices a u p)) (drop from t) k v
-          → scan (wide (start (slices a u p))) k (drop from t) ≡ v
+      by : (v : Scanned) → scan (start r) k (drop from t) ≡ v → Wider (start r) (drop from t) k v
+          → scan (wide (start r)) k (drop from t) ≡ v
       by (Whole n) e w = w
       by (Faulty n) e w = w
-      by (Full n) e w = absurd (never-full k from n e)
+      by (Full n) e w = absurd (never-full (start r) k (drop from t) (roomy from) n e)
 
   -- what an answer tells of the verdict
-  was-whole : (from next : ℕ) (f : File) → reading (slices a u p) t from ≡ accepted f next → scanAt (slices a u p) t from ≡ Whole next
+  was-whole : (from next : ℕ) (f : File) → reading r t from ≡ accepted f next → scanAt r t from ≡ Whole next
   unfolding reading
-  was-whole from next f e = by (scanAt (slices a u p) t from) _ e
+  was-whole from next f e = by (scanAt r t from) _ e
     where
       by : (v : Scanned) (g : File) → answer g v ≡ accepted f next → v ≡ Whole next
       by (Whole n) g e = let h : n ≡ next = cc in ap (λ (x : ℕ). Whole x) h
       by (Faulty n) g e = let z : _≡_ {A = ℕ} 0 1 = cc in absurd (omega arith)
       by (Full n) g e = let z : _≡_ {A = ℕ} 0 1 = cc in absurd (omega arith)
 
-  was-fault : (from c q : ℕ) → reading (slices a u p) t from ≡ refused c q → (c ≡ 11) × (scanAt (slices a u p) t from ≡ Faulty q)
+  was-fault : (from c q : ℕ) → reading r t from ≡ refused c q → (c ≡ 11) × (scanAt r t from ≡ Faulty q)
   unfolding reading scanAt
-  was-fault from c q e = by (scan (start (slices a u p)) (min from (length t)) (drop from t)) _ refl e
+  was-fault from c q e = by (scan (start r) (min from (length t)) (drop from t)) _ refl e
     where
       by :
           (v : Scanned) (g : File)
-          → scan (start (slices a u p)) (min from (length t)) (drop from t) ≡ v
+          → scan (start r) (min from (length t)) (drop from t) ≡ v
           → answer g v ≡ refused c q
           → (c ≡ 11) × (v ≡ Faulty q)
       by (Whole n) g x e = let z : _≡_ {A = ℕ} 0 1 = cc in absurd (omega arith)
       by (Faulty n) g x e = let h : 11 ≡ c = cc in let i : n ≡ q = cc in (sym h, ap (λ (y : ℕ). Faulty y) i)
-      by (Full n) g x e = absurd (never-full (min from (length t)) from n x)
+      by (Full n) g x e = absurd (never-full (start r) (min from (length t)) (drop from t) (roomy from) n x)
 
   -- the check from a file's end on is the check of what is left
   goes-on :
@@ -203,32 +242,32 @@ module _ (a u p : ℕ) (t : List ℕ) (ha : length t ≤ a) (hu : length t ≤ u
       some [] i = absurd (omega arith)
       some (b ∷ r) i = refl
 
-  comes-back : (from c q : ℕ) → ComesBack a u p t from c q → (c ≡ 11) × (judge (start free) (min from (length t)) (drop from t) ≡ fails q)
+  comes-back : (from c q : ℕ) → ComesBack r t from c q → (c ≡ 11) × (judge (start free) (min from (length t)) (drop from t) ≡ fails q)
   unfolding scanAt
   comes-back from c q (here _ _ _ e) =
       let w = was-fault from c q e in
       (w .0, same-fault (start free) (min from (length t)) (drop from t) q (wide-verdict (min from (length t)) from (Faulty q) (w .1)))
-  comes-back from c q (further _ f next _ _ e h r) =
+  comes-back from c q (further _ f next _ _ e h b) =
       let w = was-whole from next f e in
       let g = same-end (start free) (min from (length t)) (drop from t) next (wide-verdict (min from (length t)) from (Whole next) w) in
-      let i = comes-back next c q r in
-      let b = next-within a u p t from next f e in
+      let i = comes-back next c q b in
+      let w = next-within r t from next f e in
       let n : next ≡ from + g .past = omega (arith, g .here) in
       (i .0, g .goes ∙ goes-on next from (g .past) n h ∙ i .1)
 
   -- BY READING'S VERDICTS: how the check goes on from a position, as a program finds it
-  pub never-too-many : (from q : ℕ) → scanAt (slices a u p) t from ≡ Full q → ⊥
+  pub never-too-many : (from q : ℕ) → scanAt r t from ≡ Full q → ⊥
   unfolding scanAt
-  never-too-many from q e = never-full (min from (length t)) from q e
+  never-too-many from q e = never-full (start r) (min from (length t)) (drop from t) (roomy from) q e
 
-  pub check-fault : (from q : ℕ) → scanAt (slices a u p) t from ≡ Faulty q → judge (start free) (min from (length t)) (drop from t) ≡ fails q
+  pub check-fault : (from q : ℕ) → scanAt r t from ≡ Faulty q → judge (start free) (min from (length t)) (drop from t) ≡ fails q
   unfolding scanAt
   check-fault from q e = same-fault (start free) (min from (length t)) (drop from t) q (wide-verdict (min from (length t)) from (Faulty q) e)
 
-  module _ (from next : ℕ) (e : scanAt (slices a u p) t from ≡ Whole next) where
+  module _ (from next : ℕ) (e : scanAt r t from ≡ Whole next) where
     pub check-forward : (from < next) × (next ≤ length t)
     unfolding reading
-    check-forward = next-within a u p t from next _ (ap (answer (fileOf (readBlocks (blocks (slices a u p)) (drop from t) .got))) e)
+    check-forward = next-within r t from next _ (ap (answer (fileOf (readBlocks (blocks r) (drop from t) .got))) e)
 
     whole-end : Goes (start free) (min from (length t)) (drop from t) next
     unfolding scanAt
@@ -248,42 +287,42 @@ module _ (a u p : ℕ) (t : List ℕ) (ha : length t ≤ a) (hu : length t ≤ u
         whole-end .goes ∙ ap (goesOn next) d
 
   -- each file is read, or one comes back
-  either : (fuel from : ℕ) → length t - from < fuel → ReadsOn a u p t from ⊎ ((c : ℕ) × ((q : ℕ) × ComesBack a u p t from c q))
+  either : (fuel from : ℕ) → length t - from < fuel → ReadsOn r t from ⊎ ((c : ℕ) × ((q : ℕ) × ComesBack r t from c q))
   either zero from h = absurd (omega arith)
-  either (suc fuel) from h = by (reading (slices a u p) t from) refl (λ next i. either fuel next i)
+  either (suc fuel) from h = by (reading r t from) refl (λ next i. either fuel next i)
     where
-      by : (x : Answer) → reading (slices a u p) t from ≡ x
-          → ((next : ℕ) → length t - next < fuel → ReadsOn a u p t next ⊎ ((c : ℕ) × ((q : ℕ) × ComesBack a u p t next c q)))
-          → ReadsOn a u p t from ⊎ ((c : ℕ) × ((q : ℕ) × ComesBack a u p t from c q))
-      by (refused c q) e r = inr (c, (q, here from c q e))
-      by (accepted f next) e r = on (decLe (length t) next)
+      by : (x : ReadingAnswer) → reading r t from ≡ x
+          → ((next : ℕ) → length t - next < fuel → ReadsOn r t next ⊎ ((c : ℕ) × ((q : ℕ) × ComesBack r t next c q)))
+          → ReadsOn r t from ⊎ ((c : ℕ) × ((q : ℕ) × ComesBack r t from c q))
+      by (refused c q) e o = inr (c, (q, here from c q e))
+      by (accepted f next) e o = on (decLe (length t) next)
         where
-          on : Dec (length t ≤ next) → ReadsOn a u p t from ⊎ ((c : ℕ) × ((q : ℕ) × ComesBack a u p t from c q))
-          on (yes l) = let n : next ≡ length t = omega (arith, next-within a u p t from next f e .1) in inl (last from f (e ∙ ap (accepted f) n))
+          on : Dec (length t ≤ next) → ReadsOn r t from ⊎ ((c : ℕ) × ((q : ℕ) × ComesBack r t from c q))
+          on (yes l) = let n : next ≡ length t = omega (arith, next-within r t from next f e .1) in inl (last from f (e ∙ ap (accepted f) n))
           on (no l) =
               ⊎-elim (λ rs. inl (then from f next e rs))
               (λ c. inr (c .0, (c .1 .0, further from f next (c .0) (c .1 .0) e (omega (arith, l)) (c .1 .1))))
-              (r next (omega (arith, l, next-within a u p t from next f e .0)))
+              (o next (omega (arith, l, next-within r t from next f e .0)))
 
   -- THE PLACE OF ITS 11: the file check answers a place exactly where a file comes back there
   module _ (h : length t ≤ 1_000_000_000_000_000) where
-    place-of : (c q : ℕ) → ComesBack a u p t 0 c q → checkOf t ≡ pos q
+    place-of : (c q : ℕ) → ComesBack r t 0 c q → checkOf t ≡ pos q
     place-of c q b =
         let z : 0 ≡ min 0 (length t) = omega arith in
         check-within t h ∙ ap (λ (k : ℕ). number (judge (start free) k t)) z ∙ ap number (comes-back 0 c q b .1)
 
-    pub checked-by-refusal : (q : ℕ) → (checkOf t ≡ pos q) ↔ ComesBack a u p t 0 11 q
+    pub checked-by-refusal : (q : ℕ) → (checkOf t ≡ pos q) ↔ ComesBack r t 0 11 q
     checked-by-refusal q = (λ e. ⊎-elim (read e) (refusal e) (either (suc (length t)) 0 (omega arith)), λ b. place-of 11 q b)
       where
-        read : checkOf t ≡ pos q → ReadsOn a u p t 0 → ComesBack a u p t 0 11 q
+        read : checkOf t ≡ pos q → ReadsOn r t 0 → ComesBack r t 0 11 q
         read e rs =
-            let f : checkOf t ≡ negsuc 0 = checked-by-reading a u p t h ha hu hp .1 rs in
+            let f : checkOf t ≡ negsuc 0 = checked-by-reading r t h wide-enough .1 rs in
             let z : _≡_ {A = ℕ} 0 1 = cc in
             absurd (omega arith)
 
-        refusal : checkOf t ≡ pos q → ((c : ℕ) × ((o : ℕ) × ComesBack a u p t 0 c o)) → ComesBack a u p t 0 11 q
+        refusal : checkOf t ≡ pos q → ((c : ℕ) × ((o : ℕ) × ComesBack r t 0 c o)) → ComesBack r t 0 11 q
         refusal e x =
             let f : checkOf t ≡ pos (x .1 .0) = place-of (x .0) (x .1 .0) (x .1 .1) in
             let i : x .1 .0 ≡ q = cc in
-            subst (λ (o : ℕ). ComesBack a u p t 0 11 o) i
-            (subst (λ (c : ℕ). ComesBack a u p t 0 c (x .1 .0)) (comes-back 0 (x .0) (x .1 .0) (x .1 .1) .0) (x .1 .1))
+            subst (λ (o : ℕ). ComesBack r t 0 11 o) i
+            (subst (λ (c : ℕ). ComesBack r t 0 c (x .1 .0)) (comes-back 0 (x .0) (x .1 .0) (x .1 .1) .0) (x .1 .1))

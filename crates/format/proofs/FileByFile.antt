@@ -9,9 +9,9 @@ use lib.ListN.{length, drop, length-append, length-drop}
 use lib.Seq.{drop-drop, drop-append-seam}
 use lib.IntN.{ℤ, negsuc}
 use Rattle.format.specs.Bytes.{m}
-use Rattle.format.specs.Blocks.{Block, free, slices, blocks}
+use Rattle.format.specs.Blocks.{Block, Slices, free, blocks}
 use Rattle.format.specs.Decimal.{All}
-use Rattle.format.specs.Grammar.{namesText, linesText, blocksText, BlocksFit, File, rows, fileText, Fits, Files}
+use Rattle.format.specs.Grammar.{namesText, linesText, blocksText, BlocksFit, File, kindsOf, rows, fileText, Fits, Few, fits-slices, Files}
 use Rattle.format.specs.Grammar as G
 use Rattle.format.specs.Machine.{checkOf}
 use Rattle.format.specs.Language.{Follows}
@@ -38,17 +38,20 @@ few n (b ∷ bs) (ls ∷ w) x h =
     (omega arith, few n bs w (x .2) (omega arith))
 
 -- slices as long as a file's text take it
-takes-all : (n a u p : ℕ) (f : File) → Fits free f → length (fileText f) ≤ n → n ≤ a → n ≤ u → n ≤ p → Fits (slices a u p) f
-takes-all n a u p f x h ha hu hp =
-    let c = few n (blocks free) (rows f) x h in
-    let la : length (f .agents) ≤ n = c .1 .0 in
-    let lu : length (f .users) ≤ n = c .1 .1 .0 in
-    let lp : length (f .points) ≤ n = c .1 .1 .1 .0 in
-    (x .0, x .1, (x .2 .0, omega arith, (x .2 .2 .0, omega arith, (x .2 .2 .2 .0, omega arith, tt))))
+abbrev pub AtLeast : ℕ → Slices → Type 0
+AtLeast n r = All (λ (k : ℕ). n ≤ k) r
+
+few-all : (n : ℕ) (r : Slices) (w : List (List (List ℤ))) → AtLeast n r → All (λ (ls : List (List ℤ)). length ls ≤ n) w → Few r w
+few-all n [] w h a = tt
+few-all n (k ∷ r) [] h a = tt
+few-all n (k ∷ r) (ls ∷ w) h a = (omega (arith, h .0, a .0), few-all n r w (h .1) (a .1))
+
+takes-all : (n : ℕ) (r : Slices) (f : File) → Fits free f → length (fileText f) ≤ n → AtLeast n r → Fits r f
+takes-all n r f x h e = fits-slices r f .1 (x, few-all n r (kindsOf f) e (few n (blocks free) (rows f) x h .1))
 
 -- what slices take fits any count
-takes-free : (a u p : ℕ) (f : File) → Fits (slices a u p) f → Fits free f
-takes-free a u p f x = (x .0, x .1, (x .2 .0, tt, (x .2 .2 .0, tt, (x .2 .2 .2 .0, tt, tt))))
+takes-free : (r : Slices) (f : File) → Fits r f → Fits free f
+takes-free r f x = fits-slices r f .0 x .0
 
 some-bytes : (f : File) → 1 ≤ length (fileText f)
 some-bytes f =
@@ -65,7 +68,7 @@ files-follow : (t : List ℕ) → Files t → Follows t
 files-follow t (G.last f x) = let b = begins-m f [] in follows-m (fileText f) (b .0) (sym (append-nil (fileText f)) ∙ b .1)
 files-follow t (G.then f x u fs) = let b = begins-m f u in follows-m (fileText f ++ u) (b .0) (b .1)
 
-module _ (a u p : ℕ) (t : List ℕ) where
+module _ (r : Slices) (t : List ℕ) where
   -- a file that stands at a position, and what is left after it
   module _ (from : ℕ) (f : File) (rest : List ℕ) (e : drop from t ≡ fileText f ++ rest) where
     in-text : length t ≡ from + length (fileText f) + length rest
@@ -81,71 +84,69 @@ module _ (a u p : ℕ) (t : List ℕ) where
     left = sym (drop-drop (length (fileText f)) from t) ∙ ap (drop (length (fileText f))) e ∙ drop-append-seam (fileText f) rest
 
     is-read :
-        length t ≤ a
-        → length t ≤ u
-        → length t ≤ p
+        AtLeast (length t) r
         → Fits free f
         → Follows rest
-        → reading (slices a u p) t from ≡ accepted f (from + length (fileText f))
-    is-read ha hu hp x h =
-        reading-is a u p t from (accepted f (from + length (fileText f))) .1
+        → reading r t from ≡ accepted f (from + length (fileText f))
+    is-read wide x h =
+        reading-is r t from (accepted f (from + length (fileText f))) .1
         (record {
-          fits = takes-all (length t) a u p f x (omega (arith, in-text)) ha hu hp;
+          fits = takes-all (length t) r f x (omega (arith, in-text)) wide;
           rest = rest;
           follows = h;
           is = e;
           next-is = ap (λ (k : ℕ). k + length (fileText f)) (sym here);
         })
 
-  forth : length t ≤ a → length t ≤ u → length t ≤ p → (s : List ℕ) → Files s → (from : ℕ) → drop from t ≡ s → ReadsOn a u p t from
-  forth ha hu hp s (G.last f x) from e =
+  forth : AtLeast (length t) r → (s : List ℕ) → Files s → (from : ℕ) → drop from t ≡ s → ReadsOn r t from
+  forth wide s (G.last f x) from e =
       let e' : drop from t ≡ fileText f ++ [] = e ∙ sym (append-nil (fileText f)) in
       let n : from + length (fileText f) ≡ length t = omega (arith, in-text from f [] e') in
-      last from f (is-read from f [] e' ha hu hp x tt ∙ ap (accepted f) n)
-  forth ha hu hp s (G.then f x v fs) from e =
-      then from f (from + length (fileText f)) (is-read from f v e ha hu hp x (files-follow v fs))
-      (forth ha hu hp v fs (from + length (fileText f)) (left from f v e))
+      last from f (is-read from f [] e' wide x tt ∙ ap (accepted f) n)
+  forth wide s (G.then f x v fs) from e =
+      then from f (from + length (fileText f)) (is-read from f v e wide x (files-follow v fs))
+      (forth wide v fs (from + length (fileText f)) (left from f v e))
 
   -- what reading accepted
-  was-read : (from next : ℕ) (f : File) → reading (slices a u p) t from ≡ accepted f next → Read a u p t from f next
-  was-read from next f e = reading-is a u p t from (accepted f next) .0 e
+  was-read : (from next : ℕ) (f : File) → reading r t from ≡ accepted f next → Read r t from f next
+  was-read from next f e = reading-is r t from (accepted f next) .0 e
 
-  back : (from : ℕ) → ReadsOn a u p t from → Files (drop from t)
+  back : (from : ℕ) → ReadsOn r t from → Files (drop from t)
   back from (last _ f e) =
-      let r = was-read from (length t) f e in
-      let i = in-text from f (r .rest) (r .is) in
-      let h = here from f (r .rest) (r .is) in
-      let n : length (r .rest) ≡ 0 = omega (arith, r .next-is) in
-      let q : drop from t ≡ fileText f = r .is ∙ ap (λ (x : List ℕ). fileText f ++ x) (empty (r .rest) n) ∙ append-nil (fileText f) in
-      subst Files (sym q) (G.last f (takes-free a u p f (r .fits)))
+      let x = was-read from (length t) f e in
+      let i = in-text from f (x .rest) (x .is) in
+      let h = here from f (x .rest) (x .is) in
+      let n : length (x .rest) ≡ 0 = omega (arith, x .next-is) in
+      let q : drop from t ≡ fileText f = x .is ∙ ap (λ (x : List ℕ). fileText f ++ x) (empty (x .rest) n) ∙ append-nil (fileText f) in
+      subst Files (sym q) (G.last f (takes-free r f (x .fits)))
     where
       empty : (xs : List ℕ) → length xs ≡ 0 → xs ≡ []
       empty [] h = refl
       empty (x ∷ xs) h = absurd (omega arith)
   back from (then _ f next e rs) =
-      let r = was-read from next f e in
-      let n : next ≡ from + length (fileText f) = r .next-is ∙ ap (λ (k : ℕ). k + length (fileText f)) (here from f (r .rest) (r .is)) in
-      let d : drop next t ≡ r .rest = ap (λ (k : ℕ). drop k t) n ∙ left from f (r .rest) (r .is) in
-      subst Files (sym (r .is)) (G.then f (takes-free a u p f (r .fits)) (r .rest) (subst Files d (back next rs)))
+      let x = was-read from next f e in
+      let n : next ≡ from + length (fileText f) = x .next-is ∙ ap (λ (k : ℕ). k + length (fileText f)) (here from f (x .rest) (x .is)) in
+      let d : drop next t ≡ x .rest = ap (λ (k : ℕ). drop k t) n ∙ left from f (x .rest) (x .is) in
+      subst Files (sym (x .is)) (G.then f (takes-free r f (x .fits)) (x .rest) (subst Files d (back next rs)))
 
   -- the next position lies after this one, and within the text
-  pub next-within : (from next : ℕ) (f : File) → reading (slices a u p) t from ≡ accepted f next → (from < next) × (next ≤ length t)
+  pub next-within : (from next : ℕ) (f : File) → reading r t from ≡ accepted f next → (from < next) × (next ≤ length t)
   next-within from next f e =
-      let r = was-read from next f e in
-      let n = r .next-is in
-      let i = in-text from f (r .rest) (r .is) in
-      let h = here from f (r .rest) (r .is) in
+      let x = was-read from next f e in
+      let n = x .next-is in
+      let i = in-text from f (x .rest) (x .is) in
+      let h = here from f (x .rest) (x .is) in
       let b = some-bytes f in
       (omega arith, omega arith)
 
   -- FILE AFTER FILE
-  pub file-by-file : length t ≤ a → length t ≤ u → length t ≤ p → Files t ↔ ReadsOn a u p t 0
-  file-by-file ha hu hp = (λ fs. forth ha hu hp t fs 0 refl, λ rs. back 0 rs)
+  pub file-by-file : AtLeast (length t) r → Files t ↔ ReadsOn r t 0
+  file-by-file wide = (λ fs. forth wide t fs 0 refl, λ rs. back 0 rs)
 
   -- the file check's -1 and reading
   pub checked-by-reading :
-      length t ≤ 1_000_000_000_000_000 → length t ≤ a → length t ≤ u → length t ≤ p → (checkOf t ≡ negsuc 0) ↔ ReadsOn a u p t 0
-  checked-by-reading h ha hu hp =
+      length t ≤ 1_000_000_000_000_000 → AtLeast (length t) r → (checkOf t ≡ negsuc 0) ↔ ReadsOn r t 0
+  checked-by-reading h wide =
       let c = file-check t .fine h in
-      let d = file-by-file ha hu hp in
+      let d = file-by-file wide in
       (λ e. d .0 (c .0 e), λ rs. c .1 (d .1 rs))

@@ -5,15 +5,24 @@ use mathlib.Core.List.{List, [], _∷_, _++_, map, append-assoc}
 use native.Mathlib.Omega.{arith}
 use lib.ListN.{length}
 use lib.IntN.{ℤ}
-use Rattle.format.specs.Blocks.{Block, columns, Rooms, blocks}
+use Rattle.format.specs.Bytes.{lineEnd}
+use Rattle.format.specs.Blocks.{Block, columns, Slices, blocks}
 use Rattle.format.specs.Decimal.{All}
-use Rattle.format.specs.Grammar.{namesText, linesText, blocksText, LineFits, Counted, BlocksFit, File, rows, fileText, Fits}
-use Rattle.format.specs.Machine.{Item, byte, lines, laidOut, format}
+use Rattle.format.specs.Grammar.{more, line, namesOf, namesText, linesText, blocksText, LineFits, Counted, BlocksFit, File, rows, fileText}
+use Rattle.format.specs.Grammar.{Fits}
+use Rattle.format.specs.Machine.{Item, byte, end, lines, laidOut, format}
+use Rattle.format.proofs.Table.{Headed, all-headed}
+
+-- a line and what follows it, entry by entry
+pub line-then : (v : List ℕ) (vs : List (List ℕ)) (x : List ℕ) → line (v ∷ vs) ++ x ≡ v ++ (more vs ++ (lineEnd ++ x))
+unfolding line
+line-then v vs x = append-assoc (v ++ more vs) lineEnd x ∙ append-assoc v (more vs) (lineEnd ++ x)
 
 -- lines of values as the items still to come have them
 abbrev pub spell : List Item → List (List (List ℤ)) → List ℕ
 spell [] w = []
 spell (byte c ∷ f) w = c ∷ spell f w
+spell (end ∷ f) w = lineEnd ++ spell f w
 spell (lines n k ∷ f) [] = []
 spell (lines n k ∷ f) (ls ∷ w) = linesText ls ++ spell f w
 
@@ -21,6 +30,7 @@ abbrev pub Spells : List Item → List (List (List ℤ)) → Type 0
 Spells [] [] = Unit {0}
 Spells [] (ls ∷ w) = ⊥
 Spells (byte c ∷ f) w = Spells f w
+Spells (end ∷ f) w = Spells f w
 Spells (lines n k ∷ f) [] = ⊥
 Spells (lines n k ∷ f) (ls ∷ w) = All (LineFits (suc k)) ls × Counted n (length ls) × Spells f w
 
@@ -37,64 +47,51 @@ module _ (f : List Item) (w : List (List (List ℤ))) where
   out-of-names [] a = a
   out-of-names (c ∷ ns) a = out-of-names ns a
 
--- a block has a column
-abbrev HasColumn : Block → Type 0
-HasColumn b = suc (columns b - 1) ≡ columns b
-
-module _ (b : Block) (bs : List Block) where
-  abbrev to-come : List Item
-  to-come = lines (b .count) (columns b - 1) ∷ laidOut bs
-
-  laid : laidOut (b ∷ bs) ≡ map byte (namesText b) ++ to-come
-  laid = append-assoc (map byte (namesText b)) (lines (b .count) (columns b - 1) ∷ []) (laidOut bs)
+abbrev to-come : Block → List Block → List Item
+to-come b bs = end ∷ lines (b .count) (columns b - 1) ∷ laidOut bs
 
 same-text : (bs : List Block) (w : List (List (List ℤ))) → BlocksFit bs w → spell (laidOut bs) w ≡ blocksText bs w
-unfolding blocksText
+unfolding blocksText line
 same-text [] w a = refl
 same-text (b ∷ bs) [] a = absurd a
 same-text (b ∷ bs) (ls ∷ w) a =
-    ap (λ (f : List Item). spell f (ls ∷ w)) (laid b bs)
-    ∙ spell-names (to-come b bs) (ls ∷ w) (namesText b)
+    spell-names (to-come b bs) (ls ∷ w) (namesOf b)
+    ∙ sym (append-assoc (namesOf b) lineEnd (linesText ls ++ spell (laidOut bs) w))
     ∙ ap (λ (l : List ℕ). namesText b ++ (linesText ls ++ l)) (same-text bs w (a .2))
 
-spells-fit : (bs : List Block) (w : List (List (List ℤ))) → All HasColumn bs → BlocksFit bs w → Spells (laidOut bs) w
+spells-fit : (bs : List Block) (w : List (List (List ℤ))) → All Headed bs → BlocksFit bs w → Spells (laidOut bs) w
 spells-fit [] [] h a = tt
 spells-fit [] (ls ∷ w) h a = a
 spells-fit (b ∷ bs) [] h a = absurd a
 spells-fit (b ∷ bs) (ls ∷ w) h a =
-    subst (λ (f : List Item). Spells f (ls ∷ w)) (sym (laid b bs))
-    (into-names (to-come b bs) (ls ∷ w) (namesText b)
-    (subst (λ (c : ℕ). All (LineFits c) ls) (sym (h .0)) (a .0), a .1, spells-fit bs w (h .1) (a .2)))
+    into-names (to-come b bs) (ls ∷ w) (namesOf b)
+    (subst (λ (c : ℕ). All (LineFits c) ls) (sym (h .0 .column)) (a .0), a .1, spells-fit bs w (h .1) (a .2))
 
-fit-spells : (bs : List Block) (w : List (List (List ℤ))) → All HasColumn bs → Spells (laidOut bs) w → BlocksFit bs w
+fit-spells : (bs : List Block) (w : List (List (List ℤ))) → All Headed bs → Spells (laidOut bs) w → BlocksFit bs w
 fit-spells [] [] h a = tt
 fit-spells [] (ls ∷ w) h a = a
-fit-spells (b ∷ bs) [] h a =
-    out-of-names (to-come b bs) [] (namesText b) (subst (λ (f : List Item). Spells f []) (laid b bs) a)
+fit-spells (b ∷ bs) [] h a = out-of-names (to-come b bs) [] (namesOf b) a
 fit-spells (b ∷ bs) (ls ∷ w) h a =
-    let c = out-of-names (to-come b bs) (ls ∷ w) (namesText b) (subst (λ (f : List Item). Spells f (ls ∷ w)) (laid b bs) a) in
-    (subst (λ (n : ℕ). All (LineFits n) ls) (h .0) (c .0), c .1, fit-spells bs w (h .1) (c .2))
-
-all-have : (r : Rooms) → All HasColumn (blocks r)
-all-have r = (refl, (refl, (refl, (refl, tt))))
+    let c = out-of-names (to-come b bs) (ls ∷ w) (namesOf b) a in
+    (subst (λ (n : ℕ). All (LineFits n) ls) (h .0 .column) (c .0), c .1, fit-spells bs w (h .1) (c .2))
 
 -- a file's text, by the items
-pub file-text : (r : Rooms) (f : File) → Fits r f → spell (format r) (rows f) ≡ fileText f
+pub file-text : (r : Slices) (f : File) → Fits r f → spell (format r) (rows f) ≡ fileText f
 unfolding format blocksText
 file-text r f a = same-text (blocks r) (rows f) a
 
-pub file-spells : (r : Rooms) (f : File) → Fits r f → Spells (format r) (rows f)
+pub file-spells : (r : Slices) (f : File) → Fits r f → Spells (format r) (rows f)
 unfolding format
-file-spells r f a = spells-fit (blocks r) (rows f) (all-have r) a
+file-spells r f a = spells-fit (blocks r) (rows f) (all-headed r) a
 
 -- lines that fit the blocks are a file's
-pub record Filed (r : Rooms) (w : List (List (List ℤ))) : Type 0 where
+pub record Filed (r : Slices) (w : List (List (List ℤ))) : Type 0 where
   pub file : File
   pub fits : Fits r file
   pub is : rows file ≡ w
 
 two-values :
-    (l : List ℤ) (ag us ps : List (List ℤ)) (r : Rooms)
+    (l : List ℤ) (ag us ps : List (List ℤ)) (r : Slices)
     → BlocksFit (blocks r) ((l ∷ []) ∷ ag ∷ us ∷ ps ∷ [])
     → Filed r ((l ∷ []) ∷ ag ∷ us ∷ ps ∷ [])
 two-values [] ag us ps r a = absurd (omega (arith, a .0 .0 .count))
@@ -103,12 +100,12 @@ two-values (y ∷ (o ∷ [])) ag us ps r a =
     record { file = record { month = y; ons = o; agents = ag; users = us; points = ps }; fits = a; is = refl }
 two-values (y ∷ (o ∷ (z ∷ zs))) ag us ps r a = absurd (omega (arith, a .0 .0 .count))
 
-one-line : (ls ag us ps : List (List ℤ)) (r : Rooms) → BlocksFit (blocks r) (ls ∷ ag ∷ us ∷ ps ∷ []) → Filed r (ls ∷ ag ∷ us ∷ ps ∷ [])
+one-line : (ls ag us ps : List (List ℤ)) (r : Slices) → BlocksFit (blocks r) (ls ∷ ag ∷ us ∷ ps ∷ []) → Filed r (ls ∷ ag ∷ us ∷ ps ∷ [])
 one-line [] ag us ps r a = absurd (omega (arith, a .1))
 one-line (l ∷ []) ag us ps r a = two-values l ag us ps r a
 one-line (l ∷ (k ∷ ls)) ag us ps r a = absurd (omega (arith, a .1))
 
-filed : (r : Rooms) (w : List (List (List ℤ))) → BlocksFit (blocks r) w → Filed r w
+filed : (r : Slices) (w : List (List (List ℤ))) → BlocksFit (blocks r) w → Filed r w
 filed r [] a = absurd a
 filed r (ls ∷ []) a = absurd (a .2)
 filed r (ls ∷ (ag ∷ [])) a = absurd (a .2 .2)
@@ -117,6 +114,6 @@ filed r (ls ∷ (ag ∷ (us ∷ (ps ∷ [])))) a = one-line ls ag us ps r a
 filed r (ls ∷ (ag ∷ (us ∷ (ps ∷ (x ∷ w))))) a = absurd (a .2 .2 .2 .2)
 
 -- what the items of a whole file spell is a file
-pub spelt : (r : Rooms) (w : List (List (List ℤ))) → Spells (format r) w → Filed r w
+pub spelt : (r : Slices) (w : List (List (List ℤ))) → Spells (format r) w → Filed r w
 unfolding format
-spelt r w a = filed r w (fit-spells (blocks r) w (all-have r) a)
+spelt r w a = filed r w (fit-spells (blocks r) w (all-headed r) a)

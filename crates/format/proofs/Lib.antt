@@ -1,16 +1,17 @@
 -- What is proved of the month file, and where:
 --   Decimals    a value's text, in paper 01's words (`values`)
 --   Live        every state of the machine can be finished (`live`)
+--   Table       the table's rule: every block has a column and names that begin no line of values (`all-headed`)
 --   Accepts     machine and language are the same (`accepts`), from Laid, Sound and Takes
 --   FileCheck   refusal 11's place is paper 01's (`judged`), and so is the file check's answer (`file-check`)
 --   Answers     reading's answer is what paper 01 says (`reads`), and no other is (`one-answer`, `reading-is`); `round-trip`
 --   FileByFile  a text is files on end exactly where reading reads file after file to its end (`file-by-file`, `checked-by-reading`)
 --   CheckPlace  the file check's place is that of the file that comes back (`checked-by-refusal`), and how a
 --               program finds it file by file (`check-fault`, `check-on`, `check-last`)
---   Counts      reading's verdict by a count of lines, for a program (`counts`, `counts-at`)
 --   Examples    paper 01's file and its refusals, by computation
 pub mod Decimals
 pub mod Live
+pub mod Table
 pub mod Laid
 pub mod Sound
 pub mod Takes
@@ -23,6 +24,5 @@ pub mod Scans
 pub mod Wide
 pub mod Answers
 pub mod FileByFile
-pub mod Counts
 pub mod CheckPlace
 pub mod Examples

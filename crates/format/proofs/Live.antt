@@ -6,10 +6,10 @@ use mathlib.Core.List.{List, [], _∷_, _++_}
 use native.Mathlib.Omega.{arith}
 use lib.Dec.{ltb, eqb}
 use borrow.Author.Tests.{eq-eqb}
-use Rattle.format.specs.Bytes.{lf, comma, minus, isDigit, isLead, startsLine}
-use Rattle.format.specs.Blocks.{one, any, upTo, Rooms}
-use Rattle.format.specs.Grammar.{more, line}
-use Rattle.format.specs.Machine.{Item, byte, lines, format, Part, fresh, signed, nought, digits, State, stuck, at, value, isStuck, lead, ends, inValue, enter, step, final, run, From}
+use Rattle.format.specs.Bytes.{lf, lineEnd, comma, minus, isDigit, isLead, startsLine}
+use Rattle.format.specs.Blocks.{one, any, upTo}
+use Rattle.format.specs.Machine.{Item, byte, end, lines, Part, fresh, signed, nought, digits, State, stuck, at, value, isStuck, lead, ends}
+use Rattle.format.specs.Machine.{inValue, enter, step, final, run, From}
 
 -- true is not false
 pub not-both : {X : Type 0} (t : Bool) → t ≡ false → t ≡ true → X
@@ -23,11 +23,13 @@ both false q e = not-both false refl e
 abbrev pub Quiet : List Item → Type 0
 Quiet [] = Unit {0}
 Quiet (byte c ∷ f) = startsLine c ≡ false
+Quiet (end ∷ f) = ⊥
 Quiet (lines n k ∷ f) = ⊥
 
 abbrev pub Sound : List Item → Type 0
 Sound [] = Unit {0}
 Sound (byte c ∷ f) = Sound f
+Sound (end ∷ f) = Sound f
 Sound (lines n k ∷ f) = Quiet f × Sound f
 
 -- what holds of the items still to come
@@ -40,73 +42,74 @@ pub holds-cond : (P : List Item → Type 0) (t : Bool) (x y : State) → Holds P
 holds-cond P true x y a b = a
 holds-cond P false x y a b = b
 
--- a property of items that their tails have too, and that takes no notice of how much room is left, is kept by every step
-pub record Kept (P : List Item → Type 0) : Type 0 where
+-- what a step makes of a property of items that their tails have too: what follows from it, also where a line has taken its room
+pub record Kept (P Q : List Item → Type 0) : Type 0 where
   pub tail : (i : Item) (f : List Item) → P (i ∷ f) → P f
-  pub less : (n k : ℕ) (f : List Item) → P (lines (upTo (suc n)) k ∷ f) → P (lines (upTo n) k ∷ f)
+  pub so : (f : List Item) → P f → Q f
+  pub less : (n k : ℕ) (f : List Item) → P (lines (upTo (suc n)) k ∷ f) → Q (lines (upTo n) k ∷ f)
 
-module _ (P : List Item → Type 0) (c : Kept P) (b : ℕ) where
-  keep-lead : (k : ℕ) (f : List Item) → P f → Holds P (lead k f b)
-  keep-lead k f t = holds-cond P (isLead b) (value (digits 1) k f) stuck t tt
+module _ (P Q : List Item → Type 0) (c : Kept P Q) (b : ℕ) where
+  keep-lead : (k : ℕ) (f : List Item) → Q f → Holds Q (lead k f b)
+  keep-lead k f t = holds-cond Q (isLead b) (value (digits 1) k f) stuck t tt
 
-  keep-ends : (k : ℕ) (f : List Item) → P f → Holds P (ends k f b)
-  keep-ends zero f t = holds-cond P (eqb b lf) (at f) stuck t tt
-  keep-ends (suc k) f t = holds-cond P (eqb b comma) (value fresh k f) stuck t tt
+  keep-ends : (k : ℕ) (f : List Item) → Q f → Holds Q (ends k f b)
+  keep-ends zero f t = holds-cond Q (eqb b lf) (at f) stuck t tt
+  keep-ends (suc k) f t = holds-cond Q (eqb b comma) (value fresh k f) stuck t tt
 
-  keep-value : (p : Part) (k : ℕ) (f : List Item) → P f → Holds P (inValue p k f b)
+  keep-value : (p : Part) (k : ℕ) (f : List Item) → Q f → Holds Q (inValue p k f b)
   unfolding inValue
   keep-value fresh k f t =
-      holds-cond P (eqb b minus) (value signed k f) _ t (holds-cond P (eqb b 48) (value nought k f) (lead k f b) t (keep-lead k f t))
+      holds-cond Q (eqb b minus) (value signed k f) _ t (holds-cond Q (eqb b 48) (value nought k f) (lead k f b) t (keep-lead k f t))
   keep-value signed k f t = keep-lead k f t
   keep-value nought k f t = keep-ends k f t
   keep-value (digits n) k f t =
-      holds-cond P (isDigit b) _ (ends k f b) (holds-cond P (ltb n 18) (value (digits (n + 1)) k f) stuck t tt) (keep-ends k f t)
+      holds-cond Q (isDigit b) _ (ends k f b) (holds-cond Q (ltb n 18) (value (digits (n + 1)) k f) stuck t tt) (keep-ends k f t)
 
-  keep-enter : (f : List Item) → P f → Holds P (enter f b)
+  keep-enter : (f : List Item) → P f → Holds Q (enter f b)
   unfolding enter
   keep-enter [] t = tt
-  keep-enter (byte n ∷ f) t = holds-cond P (eqb b n) (at f) stuck (c .tail (byte n) f t) tt
-  keep-enter (lines one k ∷ f) t = keep-value fresh k f (c .tail (lines one k) f t)
+  keep-enter (byte n ∷ f) t = holds-cond Q (eqb b n) (at f) stuck (c .so f (c .tail (byte n) f t)) tt
+  keep-enter (end ∷ f) t = keep-ends zero f (c .so f (c .tail end f t))
+  keep-enter (lines one k ∷ f) t = keep-value fresh k f (c .so f (c .tail (lines one k) f t))
   keep-enter (lines any k ∷ f) t =
-      holds-cond P (startsLine b) _ (enter f b) (keep-value fresh k (lines any k ∷ f) t) (keep-enter f (c .tail (lines any k) f t))
+      holds-cond Q (startsLine b) _ (enter f b) (keep-value fresh k (lines any k ∷ f) (c .so (lines any k ∷ f) t))
+      (keep-enter f (c .tail (lines any k) f t))
   keep-enter (lines (upTo zero) k ∷ f) t =
-      holds-cond P (startsLine b) stuck (enter f b) tt (keep-enter f (c .tail (lines (upTo zero) k) f t))
+      holds-cond Q (startsLine b) stuck (enter f b) tt (keep-enter f (c .tail (lines (upTo zero) k) f t))
   keep-enter (lines (upTo (suc n)) k ∷ f) t =
-      holds-cond P (startsLine b) _ (enter f b) (keep-value fresh k (lines (upTo n) k ∷ f) (c .less n k f t))
+      holds-cond Q (startsLine b) _ (enter f b) (keep-value fresh k (lines (upTo n) k ∷ f) (c .less n k f t))
       (keep-enter f (c .tail (lines (upTo (suc n)) k) f t))
 
-  pub keep-step : (s : State) → Holds P s → Holds P (step s b)
+  pub keep-step : (s : State) → Holds P s → Holds Q (step s b)
   unfolding step
   keep-step stuck g = tt
   keep-step (at f) g = keep-enter f g
-  keep-step (value p k f) g = keep-value p k f g
+  keep-step (value p k f) g = keep-value p k f (c .so f g)
 
 -- what holds of every state that a text leads to
 abbrev pub Good : State → Type 0
 Good s = Holds Sound s
 
-sound-kept : Kept Sound
-sound-kept = record { tail = tail; less = λ n k f s. s }
+sound-kept : Kept Sound Sound
+sound-kept = record { tail = tail; so = λ f s. s; less = λ n k f s. s }
   where
     tail : (i : Item) (f : List Item) → Sound (i ∷ f) → Sound f
     tail (byte c) f s = s
+    tail end f s = s
     tail (lines n k) f s = s .1
 
 pub good-step : (b : ℕ) (s : State) → Good s → Good (step s b)
-good-step b s g = keep-step Sound sound-kept b s g
-
-pub sound-format : (r : Rooms) → Sound (format r)
-unfolding format more line
-sound-format r = (refl, (refl, (refl, (tt, tt))))
+good-step b s g = keep-step Sound Sound sound-kept b s g
 
 -- THE SHORTEST WAY TO AN END: zeros to the end of a line, one line where there must be one, and the names
 zeros : ℕ → List ℕ
-zeros zero = lf ∷ []
+zeros zero = lineEnd
 zeros (suc k) = comma ∷ (48 ∷ zeros k)
 
 finish : List Item → List ℕ
 finish [] = []
 finish (byte c ∷ f) = c ∷ finish f
+finish (end ∷ f) = lineEnd ++ finish f
 finish (lines one k ∷ f) = 48 ∷ (zeros k ++ finish f)
 finish (lines any k ∷ f) = finish f
 finish (lines (upTo n) k ∷ f) = finish f
@@ -146,6 +149,10 @@ module _ (c : ℕ) (f : List Item) where
     skip-upTo zero k = rw (q, eq-eqb c c refl)
     skip-upTo (suc n) k = rw (q, eq-eqb c c refl)
 
+pub end-hit : (f : List Item) → step (at (end ∷ f)) lf ≡ at f
+unfolding step enter
+end-hit f = refl
+
 -- one byte back
 pub go : (b : ℕ) (s s' : State) (t : List ℕ) → step s b ≡ s' → From s' t → From s (b ∷ t)
 unfolding run
@@ -159,13 +166,16 @@ finishes : (f : List Item) → Sound f → From (at f) (finish f)
 unfolding run finish
 finishes [] t = refl
 finishes (byte c ∷ f) t = go c _ (at f) (finish f) (hit c f) (finishes f t)
+finishes (end ∷ f) t = go lf _ (at f) (finish f) (end-hit f) (finishes f t)
 finishes (lines one k ∷ f) t =
     go 48 _ (value nought k f) (zeros k ++ finish f) (line-zero k f) (ap final (nought-ends f (finish f) k) ∙ finishes f (t .1))
 finishes (lines any k ∷ []) t = refl
 finishes (lines any k ∷ (byte c ∷ f)) t = go c _ (at f) (finish f) (skip-any c f (t .0) k) (finishes f (t .1))
+finishes (lines any k ∷ (end ∷ f)) t = absurd (t .0)
 finishes (lines any k ∷ (lines n j ∷ f)) t = absurd (t .0)
 finishes (lines (upTo n) k ∷ []) t = refl
 finishes (lines (upTo n) k ∷ (byte c ∷ f)) t = go c _ (at f) (finish f) (skip-upTo c f (t .0) n k) (finishes f (t .1))
+finishes (lines (upTo n) k ∷ (end ∷ f)) t = absurd (t .0)
 finishes (lines (upTo n) k ∷ (lines o j ∷ f)) t = absurd (t .0)
 
 -- LIVENESS: a state that is not stuck can be finished

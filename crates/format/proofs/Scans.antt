@@ -9,9 +9,9 @@ use native.Mathlib.Omega.{arith}
 use lib.ListN.{length}
 use borrow.Author.Tests.{eq-eqb, eqb-true}
 use Rattle.format.specs.Bytes.{m, startsLine}
-use Rattle.format.specs.Blocks.{one, any, upTo, Rooms}
+use Rattle.format.specs.Blocks.{one, any, upTo, Slices}
 use Rattle.format.specs.Grammar.{fileText}
-use Rattle.format.specs.Machine.{Item, byte, lines, State, stuck, at, value, isStuck, enter, step, final, endsBefore, start, run, From}
+use Rattle.format.specs.Machine.{Item, byte, end, lines, State, stuck, at, value, isStuck, enter, step, final, endsBefore, start, run, From}
 use Rattle.format.specs.Language.{Begins, Follows, Stands}
 use Rattle.format.specs.Reading.{noRoom, tooMany, scan}
 use Rattle.format.specs.declared.Scanned.{Scanned}
@@ -31,7 +31,7 @@ pub record Rests (s : State) (t : List ℕ) : Type 0 where
   pub follows : Follows rest
 
 -- from the start that is a file
-pub rests-stands : (r : Rooms) (t : List ℕ) → Rests (start r) t ↔ Stands r t
+pub rests-stands : (r : Slices) (t : List ℕ) → Rests (start r) t ↔ Stands r t
 rests-stands r t = (forth, back)
   where
     forth : Rests (start r) t → Stands r t
@@ -68,6 +68,7 @@ no-room-stuck : (f : List Item) (b : ℕ) → noRoom f ≡ true → startsLine b
 unfolding enter
 no-room-stuck [] b e s = not-both false refl e
 no-room-stuck (byte c ∷ f) b e s = not-both false refl e
+no-room-stuck (end ∷ f) b e s = not-both false refl e
 no-room-stuck (lines one k ∷ f) b e s = not-both false refl e
 no-room-stuck (lines any k ∷ f) b e s = not-both false refl e
 no-room-stuck (lines (upTo zero) k ∷ f) b e s = rw s

@@ -8,16 +8,17 @@ use lib.Dec.{leb, ltb, eqb}
 use lib.ListN.{length}
 use lib.IntN.{ℤ}
 use borrow.Author.Tests.{leb-true, ltb-true, eqb-true}
-use Rattle.format.specs.Bytes.{lf, comma, isDigit, is-digit, isLead, startsLine, Digit}
+use Rattle.format.specs.Bytes.{lf, lineEnd, comma, isDigit, is-digit, isLead, startsLine, Digit}
 use Rattle.format.specs.Bytes as B
-use Rattle.format.specs.Blocks.{Count, one, any, upTo, Rooms}
+use Rattle.format.specs.Blocks.{Count, one, any, upTo, Slices}
 use Rattle.format.specs.Decimal as D
 use Rattle.format.specs.Decimal.{text, Small, All, Numeral, Value}
 use Rattle.format.specs.Grammar.{more, line, lineText, linesText, LineFits, Counted, File, fileText, Fits}
-use Rattle.format.specs.Machine.{Item, byte, lines, format, Part, fresh, signed, nought, digits, State, stuck, at, value, lead, ends, inValue, enter, step, ended, final, start, run, From}
+use Rattle.format.specs.Machine.{Item, byte, end, lines, format, Part, fresh, signed, nought, digits, State, stuck, at, value, lead, ends}
+use Rattle.format.specs.Machine.{inValue, enter, step, ended, final, start, run, From}
 use Rattle.format.proofs.Decimals.{text-of}
 use Rattle.format.proofs.Live.{not-both, both}
-use Rattle.format.proofs.Laid.{spell, Spells, file-text, spelt}
+use Rattle.format.proofs.Laid.{line-then, spell, Spells, file-text, spelt}
 
 -- the items still to come, written out
 record After (g : List Item) (t : List ℕ) : Type 0 where
@@ -41,7 +42,7 @@ record InLine (p : Part) (k : ℕ) (g : List Item) (t : List ℕ) : Type 0 where
   count : length values ≡ k
   small : All Small values
   after : After g next
-  is : t ≡ rest ++ (more (map text values) ++ next)
+  is : t ≡ rest ++ (more (map text values) ++ (lineEnd ++ next))
 
 -- what a text is that leads from a state to the end of a file
 abbrev Tail : State → List ℕ → Type 0
@@ -89,8 +90,8 @@ module _ (b : ℕ) (t : List ℕ) where
             ap (λ (x : ℕ). x ∷ t) (eqb-true b comma (c .0))
             ∙ ap (λ (x : List ℕ). comma ∷ x)
             (i .is
-            ∙ ap (λ (x : List ℕ). x ++ (more (map text (i .values)) ++ i .next)) (o .is)
-            ∙ sym (append-assoc (text (o .number)) (more (map text (i .values))) (i .next)));
+            ∙ ap (λ (x : List ℕ). x ++ (more (map text (i .values)) ++ (lineEnd ++ i .next))) (o .is)
+            ∙ sym (append-assoc (text (o .number)) (more (map text (i .values))) (lineEnd ++ i .next)));
       }
 
   -- a byte more of the value, whatever it is
@@ -173,11 +174,11 @@ module _ (k : ℕ) (t : List ℕ) (g : List Item) (i : InLine fresh k g t) where
   line-fits = record { count = ap suc (i .count); small = (text-of (i .rest) (i .left) .small, i .small) }
 
   line-is : t ≡ lineText whole-line ++ i .next
-  unfolding whole-line line
+  unfolding whole-line
   line-is =
       i .is
-      ∙ ap (λ (x : List ℕ). x ++ (more (map text (i .values)) ++ i .next)) (text-of (i .rest) (i .left) .is)
-      ∙ sym (append-assoc (text (text-of (i .rest) (i .left) .number)) (more (map text (i .values))) (i .next))
+      ∙ ap (λ (x : List ℕ). x ++ (more (map text (i .values)) ++ (lineEnd ++ i .next))) (text-of (i .rest) (i .left) .is)
+      ∙ sym (line-then (text (text-of (i .rest) (i .left) .number)) (map text (i .values)) (i .next))
 
 only-line : (k : ℕ) (t : List ℕ) (f : List Item) → InLine fresh k f t → After (lines one k ∷ f) t
 unfolding linesText
@@ -234,6 +235,13 @@ module _ (b : ℕ) (t : List ℕ) where
         spells = p .1 .spells;
         is = ap (λ (x : ℕ). x ∷ t) (eqb-true b c (p .0)) ∙ ap (λ (x : List ℕ). c ∷ x) (p .1 .is);
       }
+  back-enter (end ∷ f) h =
+      let p = passed (eqb b lf) (at f) t h in
+      record {
+        said = p .1 .said;
+        spells = p .1 .spells;
+        is = ap (λ (x : ℕ). x ∷ t) (eqb-true b lf (p .0)) ∙ ap (λ (x : List ℕ). lineEnd ++ x) (p .1 .is);
+      }
   back-enter (lines one k ∷ f) h = only-line k (b ∷ t) f (back-fresh b t k f h)
   back-enter (lines any k ∷ f) h =
       begun (startsLine b) (inValue fresh k (lines any k ∷ f) b) (enter f b) (lines any k ∷ f)
@@ -260,6 +268,7 @@ module _ (b : ℕ) (t : List ℕ) where
 at-end : (f : List Item) → ended f ≡ true → After f []
 at-end [] e = record { said = []; spells = tt; is = refl }
 at-end (byte c ∷ f) e = not-both false refl e
+at-end (end ∷ f) e = not-both false refl e
 at-end (lines one k ∷ f) e = not-both false refl e
 at-end (lines any k ∷ f) e = no-more-lines any tt k [] f (at-end f e)
 at-end (lines (upTo n) k ∷ f) e = no-more-lines (upTo n) zero-le k [] f (at-end f e)
@@ -275,13 +284,13 @@ tail [] s e = final-tail s e
 tail (b ∷ t) s e = back b t s (tail t (step s b) e)
 
 -- one file
-pub record OneFile (r : Rooms) (t : List ℕ) : Type 0 where
+pub record OneFile (r : Slices) (t : List ℕ) : Type 0 where
   pub file : File
   pub fits : Fits r file
   pub is : t ≡ fileText file
 
 -- THE MACHINE TAKES NOTHING BUT A FILE
-pub sound : (r : Rooms) (t : List ℕ) → From (start r) t → OneFile r t
+pub sound : (r : Slices) (t : List ℕ) → From (start r) t → OneFile r t
 sound r t e =
     let a = tail t (at (format r)) e in
     let f = spelt r (a .said) (a .spells) in

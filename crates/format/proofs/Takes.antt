@@ -7,15 +7,17 @@ use native.Mathlib.Omega.{arith}
 use lib.ListN.{length}
 use lib.IntN.{ℤ}
 use borrow.Author.Tests.{lt-ltb, le-leb, ne-eqb}
-use Rattle.format.specs.Bytes.{lf, comma, minus, isDigit, is-digit, startsLine, Digit}
-use Rattle.format.specs.Blocks.{one, any, upTo, Rooms}
+use Rattle.format.specs.Bytes.{lf, lineEnd, comma, minus, isDigit, is-digit, startsLine, Digit}
+use Rattle.format.specs.Blocks.{one, any, upTo, Slices}
 use Rattle.format.specs.Decimal as D
 use Rattle.format.specs.Decimal.{text, Small, All, Value}
-use Rattle.format.specs.Grammar.{more, line, lineText, linesText, LineFits, File, rows, fileText, Fits}
-use Rattle.format.specs.Machine.{Item, byte, lines, format, fresh, signed, nought, digits, State, at, value, ends, inValue, enter, step, final, start, run, From}
+use Rattle.format.specs.Grammar.{more, lineText, linesText, LineFits, File, rows, fileText, Fits}
+use Rattle.format.specs.Machine.{Item, byte, end, lines, format, fresh, signed, nought, digits, State, at, value, ends, inValue, enter, step}
+use Rattle.format.specs.Machine.{final, start, run, From}
 use Rattle.format.proofs.Decimals.{value-of}
-use Rattle.format.proofs.Live.{Quiet, Sound, sound-format, hit, skip-any, skip-upTo, go}
-use Rattle.format.proofs.Laid.{spell, Spells, file-text, file-spells}
+use Rattle.format.proofs.Live.{Quiet, Sound, hit, end-hit, skip-any, skip-upTo, go}
+use Rattle.format.proofs.Table.{sound-format}
+use Rattle.format.proofs.Laid.{line-then, spell, Spells, file-text, file-spells}
 
 -- one byte on
 on : (b : ℕ) (s s' : State) (x : List ℕ) → step s b ≡ s' → run step s (b ∷ x) ≡ run step s' x
@@ -80,22 +82,21 @@ module _ (g : List Item) where
       (z : ℤ) (zs : List ℤ) (x : List ℕ)
       → Small z
       → All Small zs
-      → run step (value fresh (length zs) g) (text z ++ (more (map text zs) ++ x)) ≡ run step (at g) x
+      → run step (value fresh (length zs) g) (text z ++ (more (map text zs) ++ (lineEnd ++ x))) ≡ run step (at g) x
   unfolding more
   values-go z [] x s a = value-goes 0 g lf x refl (text z) (value-of z s)
   values-go z (y ∷ ys) x s a =
-      value-goes (suc (length ys)) g comma ((text y ++ more (map text ys)) ++ x) refl (text z) (value-of z s)
-      ∙ ap (λ (u : List ℕ). run step (value fresh (length ys) g) u) (append-assoc (text y) (more (map text ys)) x)
+      value-goes (suc (length ys)) g comma ((text y ++ more (map text ys)) ++ (lineEnd ++ x)) refl (text z) (value-of z s)
+      ∙ ap (λ (u : List ℕ). run step (value fresh (length ys) g) u) (append-assoc (text y) (more (map text ys)) (lineEnd ++ x))
       ∙ values-go y ys x (a .0) (a .1)
 
   -- a line
   line-goes : (k : ℕ) (l : List ℤ) (x : List ℕ) → LineFits (suc k) l → run step (value fresh k g) (lineText l ++ x) ≡ run step (at g) x
-  unfolding line
   line-goes k [] x f = absurd (omega (arith, f .count))
   line-goes k (z ∷ zs) x f =
       let e : length zs ≡ k = omega (arith, f .count) in
-      ap (λ (u : List ℕ). run step (value fresh k g) u) (append-assoc (text z) (more (map text zs)) x)
-      ∙ subst (λ (n : ℕ). run step (value fresh n g) (text z ++ (more (map text zs) ++ x)) ≡ run step (at g) x) e
+      ap (λ (u : List ℕ). run step (value fresh k g) u) (line-then (text z) (map text zs) x)
+      ∙ subst (λ (n : ℕ). run step (value fresh n g) (text z ++ (more (map text zs) ++ (lineEnd ++ x))) ≡ run step (at g) x) e
       (values-go z zs x (f .small .0) (f .small .1))
 
 -- a value, and so a line of values, begins at a digit or minus sign
@@ -117,10 +118,10 @@ value-begun t x (D.plain c) =
 value-begun t x (D.below u q c) = record { first = minus; rest = u ++ x; is = ap (λ (l : List ℕ). l ++ x) q; starts = refl }
 
 pub line-begun : (k : ℕ) (l : List ℤ) (x : List ℕ) → LineFits (suc k) l → Begun (lineText l ++ x)
-unfolding line
 line-begun k [] x f = absurd (omega (arith, f .count))
 line-begun k (z ∷ zs) x f =
-    subst Begun (sym (append-assoc (text z) (more (map text zs)) x)) (value-begun (text z) (more (map text zs) ++ x) (value-of z (f .small .0)))
+    subst Begun (sym (line-then (text z) (map text zs) x))
+    (value-begun (text z) (more (map text zs) ++ (lineEnd ++ x)) (value-of z (f .small .0)))
 
 -- lines where they may follow
 module _ (k : ℕ) (g : List Item) where
@@ -178,6 +179,7 @@ module _ (k : ℕ) where
   unfolding run
   past-any [] w q h = refl
   past-any (byte c ∷ f) w q h = subst (λ (s : State). From s (spell f w)) (hit c f ∙ sym (skip-any c f q k)) h
+  past-any (end ∷ f) w q h = absurd q
   past-any (lines n j ∷ f) w q h = absurd q
 
   past-upTo :
@@ -188,6 +190,7 @@ module _ (k : ℕ) where
   unfolding run
   past-upTo n [] w q h = refl
   past-upTo n (byte c ∷ f) w q h = subst (λ (s : State). From s (spell f w)) (hit c f ∙ sym (skip-upTo c f q n k)) h
+  past-upTo n (end ∷ f) w q h = absurd q
   past-upTo n (lines o j ∷ f) w q h = absurd q
 
 goes : (f : List Item) (w : List (List (List ℤ))) → Sound f → Spells f w → From (at f) (spell f w)
@@ -195,6 +198,7 @@ unfolding run linesText
 goes [] [] s a = refl
 goes [] (ls ∷ w) s a = absurd a
 goes (byte c ∷ f) w s a = go c (at (byte c ∷ f)) (at f) (spell f w) (hit c f) (goes f w s a)
+goes (end ∷ f) w s a = go lf (at (end ∷ f)) (at f) (spell f w) (end-hit f) (goes f w s a)
 goes (lines n k ∷ f) [] s a = absurd a
 goes (lines one k ∷ f) ([] ∷ w) s a = absurd (omega (arith, a .1))
 goes (lines one k ∷ f) ((l ∷ []) ∷ w) s a =
@@ -209,5 +213,5 @@ goes (lines (upTo n) k ∷ f) (ls ∷ w) s a =
     ap final (r .1) ∙ past-upTo k (r .0) f w (s .0) (goes f w (s .1) (a .2))
 
 -- THE MACHINE TAKES EVERY FILE
-pub takes : (r : Rooms) (f : File) → Fits r f → From (start r) (fileText f)
+pub takes : (r : Slices) (f : File) → Fits r f → From (start r) (fileText f)
 takes r f a = subst (λ (t : List ℕ). From (start r) t) (file-text r f a) (goes (format r) (rows f) (sound-format r) (file-spells r f a))

@@ -10,13 +10,16 @@ use lib.IntN.{ℤ, pos, negsuc}
 use mir.Val.{SFits}
 use mir.Syntax.{w64}
 use borrow.Author.Tests.{ne-eqb}
-use Rattle.format.specs.Bytes.{lf, comma, minus, isDigit, is-digit, startsLine, Digit}
-use Rattle.format.specs.Blocks.{Count, one, any, upTo, Block, columns, Rooms, free, blocks}
+use Rattle.format.specs.Bytes.{lf, lineEnd, comma, minus, isDigit, is-digit, startsLine, Digit}
+use Rattle.format.specs.Blocks.{Count, one, any, upTo, Block, columns, Slices, free, blocks}
 use Rattle.format.specs.Decimal.{shown, text, Small, All}
-use Rattle.format.specs.Grammar.{more, line, namesText, lineText, linesText, blocksText, LineFits, Counted, BlocksFit, File, rows, fileText, Fits}
+use Rattle.format.specs.Grammar.{more, entries, line, namesOf, namesText, lineText, linesText, blocksText, LineFits, Counted, BlocksFit, File}
+use Rattle.format.specs.Grammar.{rows, fileText, Fits}
 use Rattle.format.specs.Language.{Follows}
-use Rattle.format.specs.Values.{Got, readDigits, withSign, readValue, readLine, lineHere, readLines, most, readBlocks, fileOf}
+use Rattle.format.specs.Values.{Got, pastEnd, readDigits, withSign, readValue, readLine, lineHere, readLines, most, readBlocks, fileOf}
 use Rattle.format.proofs.Decimals.{said, numeral, read-back}
+use Rattle.format.proofs.Table.{Named, Headed, all-headed}
+use Rattle.format.proofs.Laid.{line-then}
 use Rattle.format.proofs.Takes.{line-begun}
 
 digits-read :
@@ -93,19 +96,24 @@ module _ (b : ℕ) (x : List ℕ) (e : isDigit b ≡ false) where
 abbrev joined : Got ℤ → Got (List ℤ) → Got (List ℤ)
 joined v r = record { got = v .got ∷ r .got; left = r .left }
 
+line-then-more : (y : ℤ) (ys : List ℤ) (x : List ℕ) → lineText (y ∷ ys) ++ x ≡ (text y ++ more (map text ys)) ++ (lineEnd ++ x)
+unfolding line
+line-then-more y ys x = append-assoc (text y ++ more (map text ys)) lineEnd x
+
 values-read :
     (z : ℤ) (zs : List ℤ) (x : List ℕ)
     → All Small (z ∷ zs)
     → readLine (suc (length zs)) (lineText (z ∷ zs) ++ x) ≡ record { got = z ∷ zs; left = x }
-unfolding line more readLine
+unfolding more readLine
 values-read z [] x a =
-    ap (λ (v : Got ℤ). joined v (readLine 0 (drop 1 (v .left))))
-    (ap readValue (append-assoc (text z) (lf ∷ []) x) ∙ value-read lf x refl z (a .0))
+    ap (λ (v : Got ℤ). joined v (readLine 0 (pastEnd (v .left))))
+    (ap readValue (line-then (text z) [] x) ∙ value-read lf x refl z (a .0))
 values-read z (y ∷ ys) x a =
     ap (λ (v : Got ℤ). joined v (readLine (suc (length ys)) (drop 1 (v .left))))
-    (ap readValue (append-assoc (text z) (comma ∷ (text y ++ more (map text ys))) x)
-    ∙ value-read comma ((text y ++ more (map text ys)) ++ x) refl z (a .0))
-    ∙ ap (joined (record { got = z; left = comma ∷ ((text y ++ more (map text ys)) ++ x) })) (values-read y ys x (a .1))
+    (ap readValue (line-then (text z) (map text (y ∷ ys)) x)
+    ∙ value-read comma ((text y ++ more (map text ys)) ++ (lineEnd ++ x)) refl z (a .0))
+    ∙ ap (λ (t : List ℕ). joined (record { got = z; left = comma ∷ t }) (readLine (suc (length ys)) t)) (sym (line-then-more y ys x))
+    ∙ ap (joined (record { got = z; left = comma ∷ (lineText (y ∷ ys) ++ x) })) (values-read y ys x (a .1))
 
 pub line-read : (k : ℕ) (l : List ℤ) (x : List ℕ) → LineFits (suc k) l → readLine (suc k) (lineText l ++ x) ≡ record { got = l; left = x }
 line-read k [] x f = absurd (omega (arith, f .count))
@@ -141,10 +149,8 @@ module _ (c : ℕ) where
 
 -- no more lines than bytes
 some-byte : (l : List ℤ) → 1 ≤ length (lineText l)
-unfolding line more
-some-byte [] = omega arith
-some-byte (z ∷ []) = omega (arith, length-append (text z) (lf ∷ []))
-some-byte (z ∷ (y ∷ zs)) = omega (arith, length-append (text z) (comma ∷ (text y ++ more (map text zs))))
+unfolding line
+some-byte l = omega (arith, length-append (entries (map text l)) lineEnd)
 
 pub few-lines : (ls : List (List ℤ)) → length ls ≤ length (linesText ls)
 unfolding linesText
@@ -156,18 +162,14 @@ enough one ls x c = omega arith
 enough any ls x c = omega (arith, few-lines ls, length-append (linesText ls) x)
 enough (upTo n) ls x c = c
 
--- a block has a column, and its names begin no line of values
-abbrev Named : List ℕ → Type 0
-Named [] = ⊥
-Named (c ∷ t) = startsLine c ≡ false
-
-pub record Headed (b : Block) : Type 0 where
-  pub column : suc (columns b - 1) ≡ columns b
-  pub names : Named (namesText b)
-
 no-line : (ns y : List ℕ) → Named ns → lineHere (ns ++ y) ≡ false
 no-line [] y n = absurd n
 no-line (c ∷ ns) y n = n
+
+-- a block's text, its names first
+names-then : (b : Block) (x u : List ℕ) → (namesText b ++ x) ++ u ≡ namesOf b ++ (lineEnd ++ (x ++ u))
+unfolding line
+names-then b x u = append-assoc (namesText b) x u ∙ append-assoc (namesOf b) lineEnd (x ++ u)
 
 quiet-next :
     (bs : List Block) (w : List (List (List ℤ))) (u : List ℕ)
@@ -178,8 +180,7 @@ quiet-next :
 unfolding blocksText
 quiet-next [] w u h a e = e
 quiet-next (b ∷ bs) [] u h a e = absurd a
-quiet-next (b ∷ bs) (ls ∷ w) u h a e =
-    ap lineHere (append-assoc (namesText b) (linesText ls ++ blocksText bs w) u) ∙ no-line (namesText b) _ (h .0 .names)
+quiet-next (b ∷ bs) (ls ∷ w) u h a e = ap lineHere (names-then b (linesText ls ++ blocksText bs w) u) ∙ no-line (namesOf b) _ (h .0 .names)
 
 abbrev blocked : Got (List (List ℤ)) → Got (List (List (List ℤ))) → Got (List (List (List ℤ)))
 blocked ls r = record { got = ls .got ∷ r .got; left = r .left }
@@ -198,8 +199,8 @@ blocks-read (b ∷ bs) (ls ∷ w) u h a e =
     (λ fit. lines-read (columns b - 1) k ls x fit (enough (b .count) ls x (a .1)) (quiet-next bs w u (h .1) (a .2) e))
     (a .0) in
     ap (λ (t : List ℕ). block (readLines (most (b .count) t) (columns b) t))
-    (ap (drop (length (namesText b))) (append-assoc (namesText b) (linesText ls ++ blocksText bs w) u)
-    ∙ drop-append-seam (namesText b) ((linesText ls ++ blocksText bs w) ++ u)
+    (ap (λ (t : List ℕ). pastEnd (drop (length (namesOf b)) t)) (names-then b (linesText ls ++ blocksText bs w) u)
+    ∙ ap pastEnd (drop-append-seam (namesOf b) (lineEnd ++ ((linesText ls ++ blocksText bs w) ++ u)))
     ∙ append-assoc (linesText ls) (blocksText bs w) u)
     ∙ ap block l
     ∙ ap (blocked (record { got = ls; left = x })) (blocks-read bs w u (h .1) (a .2) e)
@@ -207,25 +208,12 @@ blocks-read (b ∷ bs) (ls ∷ w) u h a e =
     block : Got (List (List ℤ)) → Got (List (List (List ℤ)))
     block g = blocked g (readBlocks bs (g .left))
 
-all-headed : (r : Rooms) → All Headed (blocks r)
-unfolding line more
-all-headed r = (
-  record { column = refl; names = refl },
-  (
-    record { column = refl; names = refl },
-    (
-      record { column = refl; names = refl },
-      (record { column = refl; names = refl }, tt),
-    ),
-  ),
-)
-
 pub no-line-after : (u : List ℕ) → Follows u → lineHere u ≡ false
 no-line-after [] f = refl
 no-line-after (b ∷ u) f = ap startsLine f
 
 -- THE ROUND TRIP: a file's text, with what may follow it, gives its values back
-pub values-back : (r : Rooms) (f : File) (u : List ℕ) → Fits r f → Follows u → fileOf (readBlocks (blocks r) (fileText f ++ u) .got) ≡ f
+pub values-back : (r : Slices) (f : File) (u : List ℕ) → Fits r f → Follows u → fileOf (readBlocks (blocks r) (fileText f ++ u) .got) ≡ f
 unfolding blocksText
 values-back r f u a e =
     ap (λ (g : Got (List (List (List ℤ)))). fileOf (g .got)) (blocks-read (blocks r) (rows f) u (all-headed r) a (no-line-after u e))

@@ -1,24 +1,26 @@
 -- The machine with room for any count goes along with the machine that counts lines, up to the first line too many: so 11 is the same
 -- with any room, and at 12 a file with more room could go on. Assumes nothing.
-use Prim.Native.Nat.{ℕ, zero, suc, _+_, _≤_, _<_, zero-le, suc-le-suc}
+use Prim.Native.String.{String}
+use Prim.Native.Nat.{ℕ, zero, suc, _+_, _-_, _≤_, _<_, zero-le, suc-le-suc}
 use mathlib.Core.Path.{_≡_, refl, ap, sym, _∙_, subst}
 use mathlib.Core.Bool.{Bool, true, false, cond, _&&_}
-use mathlib.Core.List.{List, [], _∷_, _++_}
+use mathlib.Core.List.{List, [], _∷_, _++_, map}
 use native.Mathlib.Omega.{arith}
 use native.Mathlib.Decide.{ℕ-discrete}
 use lib.Dec.{leb, ltb, eqb}
 use lib.ListN.{length, take, getD}
 use borrow.Author.Tests.{leb-true, le-leb, eq-eqb, ne-eqb}
 use Rattle.format.specs.Bytes.{minus, isDigit, startsLine}
-use Rattle.format.specs.Blocks.{Count, one, any, upTo, free, slices}
-use Rattle.format.specs.Grammar.{more, line}
-use Rattle.format.specs.Machine.{Item, byte, lines, format, fresh, signed, nought, State, stuck, at, value, isStuck, lead, inValue, enter, step, ended, final, endsBefore, start, run}
+use Rattle.format.specs.Blocks.{Count, one, any, upTo, Block, columns, month, kinds, Slices, free, blocksOf}
+use Rattle.format.specs.Grammar.{namesOf}
+use Rattle.format.specs.Machine.{Item, byte, end, lines, laid, laidOut, format, fresh, signed, nought, State, stuck, at, value, isStuck, lead}
+use Rattle.format.specs.Machine.{inValue, enter, step, ended, final, endsBefore, start, run}
 use Rattle.format.specs.Language.{Begins}
 use Rattle.format.specs.Reading.{noRoom, tooMany, scan}
 use Rattle.format.specs.declared.Scanned.{Scanned}
 use Rattle.format.specs.declared.Scanned.the-variants.{Whole, Faulty, Full}
 use Rattle.format.proofs.Live.{not-both, both, Quiet, Sound, Good, good-step}
-use Rattle.format.proofs.Changed.{with, with-final, with-stuck, with-cond, with-value}
+use Rattle.format.proofs.Changed.{with, with-final, with-stuck, with-cond, with-ends, with-value}
 use Rattle.format.proofs.Scans.{Rests, finished, past-step}
 
 -- the same with room for any count
@@ -29,19 +31,37 @@ more-room (upTo n) = any
 
 abbrev pub widen : List Item → List Item
 widen [] = []
+widen (end ∷ f) = end ∷ widen f
 widen (byte c ∷ f) = byte c ∷ widen f
 widen (lines n k ∷ f) = lines (more-room n) k ∷ widen f
 
 abbrev pub wide : State → State
 wide s = with widen s
 
-pub wide-start : (a u p : ℕ) → wide (start (slices a u p)) ≡ start free
-unfolding format line more
-wide-start a u p = refl
+widen-names : (ns : List ℕ) (f : List Item) → widen (map byte ns ++ f) ≡ map byte ns ++ widen f
+widen-names [] f = refl
+widen-names (c ∷ ns) f = ap (λ (g : List Item). byte c ∷ g) (widen-names ns f)
+
+widen-block : (b : Block) (bs : List Block) (f : List Item) → widen (laidOut bs) ≡ f
+    → widen (laidOut (b ∷ bs)) ≡ laid (namesOf b) (more-room (b .count)) (columns b - 1) f
+widen-block b bs f e =
+    widen-names (namesOf b) (end ∷ lines (b .count) (columns b - 1) ∷ laidOut bs)
+    ∙ ap (laid (namesOf b) (more-room (b .count)) (columns b - 1)) e
+
+wide-kinds : (ks : List (List String)) (r : Slices) → widen (laidOut (blocksOf ks r)) ≡ laidOut (blocksOf ks free)
+wide-kinds [] r = refl
+wide-kinds (k ∷ ks) [] = widen-block (record { names = k; count = any }) (blocksOf ks free) (laidOut (blocksOf ks free)) (wide-kinds ks free)
+wide-kinds (k ∷ ks) (n ∷ r) = widen-block (record { names = k; count = upTo n }) (blocksOf ks r) (laidOut (blocksOf ks free)) (wide-kinds ks r)
+
+pub wide-start : (r : Slices) → wide (start r) ≡ start free
+unfolding format
+wide-start r =
+    ap at (widen-block (record { names = month; count = one }) (blocksOf kinds r) (laidOut (blocksOf kinds free)) (wide-kinds kinds r))
 
 -- what the tests see of a state is the same
 wide-ended : (f : List Item) → ended (widen f) ≡ ended f
 wide-ended [] = refl
+wide-ended (end ∷ f) = refl
 wide-ended (byte c ∷ f) = refl
 wide-ended (lines one k ∷ f) = refl
 wide-ended (lines any k ∷ f) = wide-ended f
@@ -52,6 +72,7 @@ wide-final s = with-final widen wide-ended s
 
 wide-room : (f : List Item) → noRoom (widen f) ≡ false
 wide-room [] = refl
+wide-room (end ∷ f) = refl
 wide-room (byte c ∷ f) = refl
 wide-room (lines one k ∷ f) = refl
 wide-room (lines any k ∷ f) = refl
@@ -65,11 +86,13 @@ wide-few (value p k f) b = refl
 wide-quiet : (f : List Item) → Quiet f → Quiet (widen f)
 wide-quiet [] q = tt
 wide-quiet (byte c ∷ f) q = q
+wide-quiet (end ∷ f) q = absurd q
 wide-quiet (lines n k ∷ f) q = absurd q
 
 wide-sound : (f : List Item) → Sound f → Sound (widen f)
 wide-sound [] s = tt
 wide-sound (byte c ∷ f) s = wide-sound f s
+wide-sound (end ∷ f) s = wide-sound f s
 wide-sound (lines n k ∷ f) s = (wide-quiet f (s .0), wide-sound f (s .1))
 
 wide-good : (s : State) → Good s → Good (wide s)
@@ -84,6 +107,7 @@ module _ (b : ℕ) where
   unfolding enter
   wide-names s [] = refl
   wide-names s (byte c ∷ f) = with-cond widen (eqb b c) (at f) stuck _ _ refl refl
+  wide-names s (end ∷ f) = with-ends widen b zero f
   wide-names s (lines one k ∷ f) = with-value widen b fresh k f
   wide-names s (lines any k ∷ f) = rw s (wide-names s f)
   wide-names s (lines (upTo zero) k ∷ f) = rw s (wide-names s f)
@@ -94,6 +118,7 @@ module _ (b : ℕ) where
   unfolding enter
   wide-line s [] e = refl
   wide-line s (byte c ∷ f) e = with-cond widen (eqb b c) (at f) stuck _ _ refl refl
+  wide-line s (end ∷ f) e = with-ends widen b zero f
   wide-line s (lines one k ∷ f) e = with-value widen b fresh k f
   wide-line s (lines any k ∷ f) e = rw s (with-value widen b fresh k (lines any k ∷ f))
   wide-line s (lines (upTo zero) k ∷ f) e = not-both true e refl
@@ -136,6 +161,7 @@ module _ (b : ℕ) where
   unfolding enter
   wide-begins s [] e = not-both false refl e
   wide-begins s (byte c ∷ f) e = not-both false refl e
+  wide-begins s (end ∷ f) e = not-both false refl e
   wide-begins s (lines one k ∷ f) e = not-both false refl e
   wide-begins s (lines any k ∷ f) e = not-both false refl e
   wide-begins s (lines (upTo n) k ∷ f) e = rw s (begins-value s k (lines any k ∷ widen f))

@@ -21,32 +21,46 @@ pub record Block : Type 0 where
 abbrev pub columns : Block → ℕ
 columns b = length (b .names)
 
--- how many lines a file may have of each kind but the month line
-pub record Rooms : Type 0 where
-  pub agents : Count
-  pub users : Count
-  pub points : Count
+-- THE TABLE: the names of the month line's block, and of each kind of line of which there may be any count, as in paper 01's example
+abbrev pub month : List String
+month = "month" ∷ "ons" ∷ []
+
+abbrev pub agents : List String
+agents = "agent" ∷ "pb" ∷ "pv" ∷ "afs" ∷ "rfs" ∷ "pa" ∷ "ret" ∷ []
+
+abbrev pub users : List String
+users = "user" ∷ "kind" ∷ "ret" ∷ []
+
+abbrev pub points : List String
+points = "at" ∷ "tp" ∷ "tf" ∷ "dp" ∷ "df" ∷ "mp" ∷ "mf" ∷ "vp" ∷ "vf" ∷ []
+
+abbrev pub kinds : List (List String)
+kinds = agents ∷ users ∷ points ∷ []
+
+-- how many lines the slices lent for them take, kind by kind in the table's order (refusal 12); a kind past the end has any count
+abbrev pub Slices : Type 0
+Slices = List ℕ
 
 -- "One month line; of the others any count"
-abbrev pub free : Rooms
-free = record { agents = any; users = any; points = any }
+abbrev pub free : Slices
+free = []
 
--- as many lines as the slices lent for them take (refusal 12)
-abbrev pub slices : ℕ → ℕ → ℕ → Rooms
-slices a u p = record { agents = upTo a; users = upTo u; points = upTo p }
+abbrev pub slices : ℕ → ℕ → ℕ → Slices
+slices a u p = a ∷ u ∷ p ∷ []
 
--- THE TABLE: four blocks with their names, as in paper 01's example
-abbrev pub month : Block
-month = record { names = "month" ∷ "ons" ∷ []; count = one }
+-- the count of the first kind, and the slices of those after it
+abbrev pub taken : Slices → Count
+taken [] = any
+taken (n ∷ r) = upTo n
 
-abbrev pub agents : Count → Block
-agents c = record { names = "agent" ∷ "pb" ∷ "pv" ∷ "afs" ∷ "rfs" ∷ "pa" ∷ "ret" ∷ []; count = c }
+abbrev pub others : Slices → Slices
+others [] = []
+others (n ∷ r) = r
 
-abbrev pub users : Count → Block
-users c = record { names = "user" ∷ "kind" ∷ "ret" ∷ []; count = c }
+-- the blocks of some kinds, and of a file
+abbrev pub blocksOf : List (List String) → Slices → List Block
+blocksOf [] r = []
+blocksOf (k ∷ ks) r = record { names = k; count = taken r } ∷ blocksOf ks (others r)
 
-abbrev pub points : Count → Block
-points c = record { names = "at" ∷ "tp" ∷ "tf" ∷ "dp" ∷ "df" ∷ "mp" ∷ "mf" ∷ "vp" ∷ "vf" ∷ []; count = c }
-
-abbrev pub blocks : Rooms → List Block
-blocks r = month ∷ agents (r .agents) ∷ users (r .users) ∷ points (r .points) ∷ []
+abbrev pub blocks : Slices → List Block
+blocks r = record { names = month; count = one } ∷ blocksOf kinds r

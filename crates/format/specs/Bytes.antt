@@ -21,6 +21,10 @@ comma = 44
 abbrev pub lf : ℕ
 lf = 10
 
+-- what ends a line
+abbrev pub lineEnd : List ℕ
+lineEnd = lf ∷ []
+
 -- "one minus sign (byte 2D hexadecimal)"
 abbrev pub minus : ℕ
 minus = 0x2d

@@ -1,40 +1,47 @@
--- The month file as it is written, with no machine (paper 01, "The month file"): values parted by commas, lines ended by LF, blocks, a
+-- The month file as it is written, with no machine (paper 01, "The month file"): values parted by commas, lines and their end, blocks, a
 -- file, files on end. Assumes nothing.
 use Prim.Native.Nat.{ℕ, _≤_}
-use mathlib.Core.Path.{_≡_, refl}
+use Prim.Native.String.{String}
+use mathlib.Core.Path.{_≡_, refl, ap}
 use mathlib.Core.Logic.{_↔_}
-use mathlib.Core.List.{List, [], _∷_, _++_, map}
+use mathlib.Core.List.{List, [], _∷_, _++_, map, append-assoc, append-nil}
 use lib.ListN.{length}
 use lib.IntN.{ℤ}
-use Rattle.format.specs.Bytes.{bytes, lf, comma}
-use Rattle.format.specs.Blocks as Table
-use Rattle.format.specs.Blocks.{Count, one, any, upTo, Block, columns, Rooms, free, slices, blocks}
+use Rattle.format.specs.Bytes.{bytes, lineEnd, comma}
+use Rattle.format.specs.Blocks.{Count, one, any, upTo, Block, columns, kinds, Slices, free, blocksOf, blocks}
 use Rattle.format.specs.Decimal.{text, Small, All}
 
--- what follows the first entry of a line: each further one after a comma, and the LF
+-- what follows the first entry of a line but its end: each further one after a comma
 unfoldable pub more : List (List ℕ) → List ℕ
-more [] = lf ∷ []
+more [] = []
 more (v ∷ vs) = comma ∷ (v ++ more vs)
 
--- a line: entries parted by commas, ended by LF
-unfoldable pub line : List (List ℕ) → List ℕ
-line [] = more []
-line (v ∷ vs) = v ++ more vs
+-- entries parted by commas
+abbrev pub entries : List (List ℕ) → List ℕ
+entries [] = []
+entries (v ∷ vs) = v ++ more vs
 
-pub line-last : (v : List ℕ) → line (v ∷ []) ≡ v ++ (lf ∷ [])
+-- a line: its entries, and its end
+unfoldable pub line : List (List ℕ) → List ℕ
+line vs = entries vs ++ lineEnd
+
+pub line-last : (v : List ℕ) → line (v ∷ []) ≡ v ++ lineEnd
 unfolding line more
-line-last v = refl
+line-last v = ap (λ (x : List ℕ). x ++ lineEnd) (append-nil v)
 
 pub line-more : (v w : List ℕ) (vs : List (List ℕ)) → line (v ∷ w ∷ vs) ≡ v ++ (comma ∷ line (w ∷ vs))
 unfolding line more
-line-more v w vs = refl
+line-more v w vs = append-assoc v (comma ∷ (w ++ more vs)) lineEnd
 
--- a block's line of names
+-- a block's names, and the line of them
+abbrev pub namesOf : Block → List ℕ
+namesOf b = entries (map bytes (b .names))
+
 abbrev pub namesText : Block → List ℕ
 namesText b = line (map bytes (b .names))
 
 pub the-names :
-    (r : Rooms)
+    (r : Slices)
     → map namesText (blocks r)
     ≡ map bytes ("month,ons\n" ∷ "agent,pb,pv,afs,rfs,pa,ret\n" ∷ "user,kind,ret\n" ∷ "at,tp,tf,dp,df,mp,mf,vp,vf\n" ∷ [])
 unfolding line more
@@ -80,46 +87,47 @@ pub record File : Type 0 where
   pub users : List (List ℤ)
   pub points : List (List ℤ)
 
--- its lines, block by block
+-- its lines but the month line, kind by kind, and all of them, block by block
+abbrev pub kindsOf : File → List (List (List ℤ))
+kindsOf f = f .agents ∷ f .users ∷ f .points ∷ []
+
 abbrev pub rows : File → List (List (List ℤ))
-rows f = ((f .month ∷ f .ons ∷ []) ∷ []) ∷ f .agents ∷ f .users ∷ f .points ∷ []
+rows f = ((f .month ∷ f .ons ∷ []) ∷ []) ∷ kindsOf f
 
 -- its text
 abbrev pub fileText : File → List ℕ
 fileText f = blocksText (blocks free) (rows f)
 
--- it has lines of the table's columns, values of at most 18 digits, and no more lines than there is room for
-abbrev pub Fits : Rooms → File → Type 0
+-- it has lines of the table's columns, values of at most 18 digits, and no more lines than the slices take
+abbrev pub Fits : Slices → File → Type 0
 Fits r f = BlocksFit (blocks r) (rows f)
 
--- of slices for a agents, u users and p points that says
-pub record FitsSlices (a u p : ℕ) (f : File) : Type 0 where
-  pub month : Small (f .month)
-  pub ons : Small (f .ons)
-  pub agents : All (LineFits (columns (Table.agents any))) (f .agents)
-  pub users : All (LineFits (columns (Table.users any))) (f .users)
-  pub points : All (LineFits (columns (Table.points any))) (f .points)
-  pub fewAgents : length (f .agents) ≤ a
-  pub fewUsers : length (f .users) ≤ u
-  pub fewPoints : length (f .points) ≤ p
+-- no kind has more lines than its slice takes
+abbrev pub Few : Slices → List (List (List ℤ)) → Type 0
+Few [] w = Unit {0}
+Few (n ∷ r) [] = Unit {0}
+Few (n ∷ r) (ls ∷ w) = (length ls ≤ n) × Few r w
 
-pub fits-slices : (a u p : ℕ) (f : File) → Fits (slices a u p) f ↔ FitsSlices a u p f
-fits-slices a u p f = (
-  λ x. record {
-    month = x .0 .0 .small .0;
-    ons = x .0 .0 .small .1 .0;
-    agents = x .2 .0;
-    users = x .2 .2 .0;
-    points = x .2 .2 .2 .0;
-    fewAgents = x .2 .1;
-    fewUsers = x .2 .2 .1;
-    fewPoints = x .2 .2 .2 .1;
-  },
-  λ x. (
-    (record { count = refl; small = (x .month, (x .ons, tt)) }, tt),
-    refl,
-    (x .agents, x .fewAgents, (x .users, x .fewUsers, (x .points, x .fewPoints, tt))),
-  ),
+-- to fit slices is to fit and to have few lines
+blocks-few : (ks : List (List String)) (r : Slices) (w : List (List (List ℤ))) → BlocksFit (blocksOf ks r) w → BlocksFit (blocksOf ks free) w × Few r w
+blocks-few [] [] [] x = (tt, tt)
+blocks-few [] (n ∷ r) [] x = (tt, tt)
+blocks-few [] r (ls ∷ w) x = absurd x
+blocks-few (k ∷ ks) r [] x = absurd x
+blocks-few (k ∷ ks) [] (ls ∷ w) x = (x, tt)
+blocks-few (k ∷ ks) (n ∷ r) (ls ∷ w) x = let c = blocks-few ks r w (x .2) in ((x .0, tt, c .0), (x .1, c .1))
+
+few-blocks : (ks : List (List String)) (r : Slices) (w : List (List (List ℤ))) → BlocksFit (blocksOf ks free) w → Few r w → BlocksFit (blocksOf ks r) w
+few-blocks [] r [] x h = tt
+few-blocks [] r (ls ∷ w) x h = absurd x
+few-blocks (k ∷ ks) r [] x h = absurd x
+few-blocks (k ∷ ks) [] (ls ∷ w) x h = x
+few-blocks (k ∷ ks) (n ∷ r) (ls ∷ w) x h = (x .0, h .0, few-blocks ks r w (x .2) (h .1))
+
+pub fits-slices : (r : Slices) (f : File) → Fits r f ↔ (Fits free f × Few r (kindsOf f))
+fits-slices r f = (
+  λ x. let c = blocks-few kinds r (kindsOf f) (x .2) in ((x .0, x .1, c .0), c .1),
+  λ x. (x .0 .0, x .0 .1, few-blocks kinds r (kindsOf f) (x .0 .2) (x .1)),
 )
 
 -- "a text of one or more files on end"

@@ -7,7 +7,6 @@
 --   Language  refusal 11's place, and the file check's answer, in paper 01's words
 --   Values    the values of a file
 --   Reading   one file at a position: the answer, and what paper 01 says of it
---   Counting  reading's verdict as a program keeps it
 pub mod Bytes
 pub mod Blocks
 pub mod Decimal
@@ -16,4 +15,3 @@ pub mod Machine
 pub mod Language
 pub mod Values
 pub mod Reading
-pub mod Counting

@@ -9,24 +9,25 @@ use lib.Dec.{ltb, eqb}
 use lib.ListN.{length}
 use lib.IntN.{ℤ, pos, negsuc}
 use Rattle.format.specs.Bytes.{lf, comma, minus, m, isDigit, isLead, startsLine}
-use Rattle.format.specs.Blocks.{Count, one, any, upTo, Block, columns, Rooms, free, blocks}
-use Rattle.format.specs.Grammar.{namesText}
+use Rattle.format.specs.Blocks.{Count, one, any, upTo, Block, columns, Slices, free, blocks}
+use Rattle.format.specs.Grammar.{namesOf}
 
--- what stands in a file, in order: this very byte; or lines of values, so many, each with so many commas
+-- what stands in a file, in order: this very byte; the end of a line of names; or lines of values, so many, each with so many commas
 pub data Item : Type 0 where
   byte : ℕ → Item
+  end : Item
   lines : Count → ℕ → Item
 
--- a block laid out, and blocks
-abbrev pub items : Block → List Item
-items b = map byte (namesText b) ++ (lines (b .count) (columns b - 1) ∷ [])
+-- a block laid out before what follows it: its names, the end of their line, its lines of values
+abbrev pub laid : List ℕ → Count → ℕ → List Item → List Item
+laid names n k f = map byte names ++ (end ∷ lines n k ∷ f)
 
 abbrev pub laidOut : List Block → List Item
 laidOut [] = []
-laidOut (b ∷ bs) = items b ++ laidOut bs
+laidOut (b ∷ bs) = laid (namesOf b) (b .count) (columns b - 1) (laidOut bs)
 
 -- a whole file laid out, for so many lines
-unfoldable pub format : Rooms → List Item
+unfoldable pub format : Slices → List Item
 format r = laidOut (blocks r)
 
 -- how far a value has come: nothing yet; its minus sign; a lone 0; so many digits, the first of them not 0
@@ -53,9 +54,13 @@ isStuck (value p k f) = false
 abbrev pub lead : ℕ → List Item → ℕ → State
 lead k f b = cond (isLead b) (value (digits 1) k f) stuck
 
--- after a whole value: a comma where its line has more values, else LF
+-- the end of a line, of names or of values
+abbrev pub lineEnds : List Item → ℕ → State
+lineEnds f b = cond (eqb b lf) (at f) stuck
+
+-- after a whole value: a comma where its line has more values, else the line's end
 abbrev pub ends : ℕ → List Item → ℕ → State
-ends zero f b = cond (eqb b lf) (at f) stuck
+ends zero f b = lineEnds f b
 ends (suc k) f b = cond (eqb b comma) (value fresh k f) stuck
 
 -- in a value: 1 to 18 digits, no leading zero but in 0 itself, after one minus sign if negative; -0 is wrong
@@ -69,6 +74,7 @@ inValue (digits n) k f b = cond (isDigit b) (cond (ltb n 18) (value (digits (n +
 unfoldable pub enter : List Item → ℕ → State
 enter [] b = stuck
 enter (byte c ∷ f) b = cond (eqb b c) (at f) stuck
+enter (end ∷ f) b = lineEnds f b
 enter (lines one k ∷ f) b = inValue fresh k f b
 enter (lines any k ∷ f) b = cond (startsLine b) (inValue fresh k (lines any k ∷ f) b) (enter f b)
 enter (lines (upTo zero) k ∷ f) b = cond (startsLine b) stuck (enter f b)
@@ -84,6 +90,7 @@ step (value p k f) b = inValue p k f b
 abbrev pub ended : List Item → Bool
 ended [] = true
 ended (byte c ∷ f) = false
+ended (end ∷ f) = false
 ended (lines one k ∷ f) = false
 ended (lines any k ∷ f) = ended f
 ended (lines (upTo n) k ∷ f) = ended f
@@ -99,7 +106,7 @@ abbrev pub endsBefore : State → ℕ → Bool
 endsBefore s b = final s && eqb b m
 
 -- before the first byte of a file
-abbrev pub start : Rooms → State
+abbrev pub start : Slices → State
 start r = at (format r)
 
 -- one byte of a text of files on end: where a file ends before an `m`, a further file begins with it
@@ -120,17 +127,17 @@ abbrev pub Accepted : List ℕ → Type 0
 Accepted t = final (run onward (start free) t) ≡ true
 
 -- a text's verdict: it passes, or it fails at a place
-pub data Verdict : Type 0 where
-  passes : Verdict
-  fails : ℕ → Verdict
+pub data TextVerdict : Type 0 where
+  passes : TextVerdict
+  fails : ℕ → TextVerdict
 
 -- from state s, at the place k: the first byte with which the machine is stuck, or the end where the text may not end
-unfoldable pub judge : State → ℕ → List ℕ → Verdict
+unfoldable pub judge : State → ℕ → List ℕ → TextVerdict
 judge s k [] = cond (final s) passes (fails k)
 judge s k (b ∷ t) = cond (isStuck (onward s b)) (fails k) (judge (onward s b) (k + 1) t)
 
 -- a verdict as the file check's number: -1, else the place
-abbrev pub number : Verdict → ℤ
+abbrev pub number : TextVerdict → ℤ
 number passes = negsuc 0
 number (fails k) = pos k
 

@@ -3,16 +3,18 @@
 -- so, and that nothing else is. Assumes nothing.
 use Prim.Native.Nat.{ℕ, suc, _+_, _≤_, _<_, min}
 use mathlib.Core.Path.{_≡_}
+use mathlib.Core.Logic.{_⊎_}
 use mathlib.Core.Bool.{Bool, true, false, cond, _&&_}
 use mathlib.Core.List.{List, [], _∷_, _++_}
 use lib.Dec.{eqb}
 use native.Mathlib.Omega.{arith}
 use lib.ListN.{length, take, drop, getD, drop-of-length-le}
+use lib.IntN.{ℤ}
 use lib.Seq.{drop-length}
 use Rattle.format.specs.Bytes.{startsLine}
-use Rattle.format.specs.Blocks.{one, any, upTo, Rooms, free, slices, blocks}
-use Rattle.format.specs.Grammar.{File, fileText, Fits}
-use Rattle.format.specs.Machine.{Item, byte, lines, State, stuck, at, value, isStuck, step, final, endsBefore, start}
+use Rattle.format.specs.Blocks.{one, any, upTo, Slices, free, blocks}
+use Rattle.format.specs.Grammar.{File, kindsOf, fileText, Fits}
+use Rattle.format.specs.Machine.{Item, byte, end, lines, State, stuck, at, value, isStuck, step, final, endsBefore, start}
 use Rattle.format.specs.Language.{Begins, Place, Follows, Stands}
 use Rattle.format.specs.Values.{readBlocks, fileOf}
 use Rattle.format.specs.declared.Scanned.{Scanned}
@@ -22,6 +24,7 @@ use Rattle.format.specs.declared.Scanned.the-variants.{Whole, Faulty, Fu
 abbrev pub noRoom : List Item → Bool
 noRoom [] = false
 noRoom (byte c ∷ f) = false
+noRoom (end ∷ f) = false
 noRoom (lines one k ∷ f) = false
 noRoom (lines any k ∷ f) = false
 noRoom (lines (upTo n) k ∷ f) = eqb n 0
@@ -42,25 +45,25 @@ scan s k (b ∷ t) =
     (scan (step s b) (k + 1) t)))
 
 -- one file from a position; "a position past the end counts as the end"
-unfoldable pub scanAt : Rooms → List ℕ → ℕ → Scanned
+unfoldable pub scanAt : Slices → List ℕ → ℕ → Scanned
 scanAt r t from = scan (start r) (min from (length t)) (drop from t)
 
 -- reading's answer: the file's values and the position after it, or paper 01's number and place
-pub data Answer : Type 0 where
-  accepted : File → ℕ → Answer
-  refused : ℕ → ℕ → Answer
+pub data ReadingAnswer : Type 0 where
+  accepted : File → ℕ → ReadingAnswer
+  refused : ℕ → ℕ → ReadingAnswer
 
 -- a verdict as an answer, with paper 01's number
-abbrev pub answer : File → Scanned → Answer
+abbrev pub answer : File → Scanned → ReadingAnswer
 answer f (Whole n) = accepted f n
 answer f (Faulty p) = refused 11 p
 answer f (Full p) = refused 12 p
 
 -- READING: the verdict on the file at the position, and where it is whole the file's values
-unfoldable pub reading : Rooms → List ℕ → ℕ → Answer
+unfoldable pub reading : Slices → List ℕ → ℕ → ReadingAnswer
 reading r t from = answer (fileOf (readBlocks (blocks r) (drop from t) .got)) (scanAt r t from)
 
-pub past-the-end : (r : Rooms) (t : List ℕ) (from : ℕ) → length t ≤ from → reading r t from ≡ reading r t (length t)
+pub past-the-end : (r : Slices) (t : List ℕ) (from : ℕ) → length t ≤ from → reading r t from ≡ reading r t (length t)
 unfolding reading scanAt
 past-the-end r t from h =
     let e : min from (length t) ≡ min (length t) (length t) = omega arith in
@@ -69,19 +72,19 @@ past-the-end r t from h =
 -- WHAT PAPER 01 SAYS OF THE ANSWER, where s is the text from the position on
 
 -- "more lines of a kind than its slice takes"
-pub data Over (a u p : ℕ) (f : File) : Type 0 where
-  moreAgents : a < length (f .agents) → Over a u p f
-  moreUsers : u < length (f .users) → Over a u p f
-  morePoints : p < length (f .points) → Over a u p f
+abbrev pub Over : Slices → List (List (List ℤ)) → Type 0
+Over [] w = ⊥
+Over (n ∷ r) [] = ⊥
+Over (n ∷ r) (ls ∷ w) = (n < length ls) ⊎ Over r w
 
 -- at the start of the text stands a file with more lines of a kind than its slice takes
-pub record Exceeds (a u p : ℕ) (s : List ℕ) : Type 0 where
+pub record Exceeds (r : Slices) (s : List ℕ) : Type 0 where
   pub stands : Stands free s
-  pub over : Over a u p (stands .file)
+  pub over : Over r (kindsOf (stands .file))
 
 -- accepted: exactly this file stands at the position and the slices take it; the next position is the first byte after it
-pub record Read (a u p : ℕ) (t : List ℕ) (from : ℕ) (f : File) (next : ℕ) : Type 0 where
-  pub fits : Fits (slices a u p) f
+pub record Read (r : Slices) (t : List ℕ) (from : ℕ) (f : File) (next : ℕ) : Type 0 where
+  pub fits : Fits r f
   pub rest : List ℕ
   pub follows : Follows rest
   pub is : drop from t ≡ fileText f ++ rest
@@ -89,32 +92,32 @@ pub record Read (a u p : ℕ) (t : List ℕ) (from : ℕ) (f : File) (next : ℕ
 
 -- why a file comes back at its byte q: 11, no file of any size could have this byte there (or go no further than the text's end);
 -- 12, a line of values begins there, and with it the file has more lines of a kind than its slice takes
-pub data Why (a u p : ℕ) (s : List ℕ) (q number : ℕ) : Type 0 where
-  faulty : number ≡ 11 → Place (Stands free) s q → Why a u p s q number
-  tooLong : number ≡ 12 → q < length s → startsLine (getD s q 0) ≡ true → Begins (Exceeds a u p) (take (suc q) s) → Why a u p s q number
+pub data Why (r : Slices) (s : List ℕ) (q number : ℕ) : Type 0 where
+  faulty : number ≡ 11 → Place (Stands free) s q → Why r s q number
+  tooLong : number ≡ 12 → q < length s → startsLine (getD s q 0) ≡ true → Begins (Exceeds r) (take (suc q) s) → Why r s q number
 
 -- refused: at the first byte that no file that the slices take could have there, "whichever byte comes first"
-pub record Back (a u p : ℕ) (t : List ℕ) (from number place : ℕ) : Type 0 where
+pub record Back (r : Slices) (t : List ℕ) (from number place : ℕ) : Type 0 where
   pub past : ℕ
   pub place-is : place ≡ min from (length t) + past
-  pub first : Place (Stands (slices a u p)) (drop from t) past
-  pub why : Why a u p (drop from t) past number
+  pub first : Place (Stands r) (drop from t) past
+  pub why : Why r (drop from t) past number
 
 -- what an answer says
-abbrev pub Says : (a u p : ℕ) (t : List ℕ) (from : ℕ) → Answer → Type 0
-Says a u p t from (accepted f next) = Read a u p t from f next
-Says a u p t from (refused number place) = Back a u p t from number place
+abbrev pub Says : (r : Slices) (t : List ℕ) (from : ℕ) → ReadingAnswer → Type 0
+Says r t from (accepted f next) = Read r t from f next
+Says r t from (refused number place) = Back r t from number place
 
 -- file after file is read to the text's end
-pub data ReadsOn (a u p : ℕ) (t : List ℕ) : ℕ → Type 0 where
-  last : (from : ℕ) (f : File) → reading (slices a u p) t from ≡ accepted f (length t) → ReadsOn a u p t from
-  then : (from : ℕ) (f : File) (next : ℕ) → reading (slices a u p) t from ≡ accepted f next → ReadsOn a u p t next → ReadsOn a u p t from
+pub data ReadsOn (r : Slices) (t : List ℕ) : ℕ → Type 0 where
+  last : (from : ℕ) (f : File) → reading r t from ≡ accepted f (length t) → ReadsOn r t from
+  then : (from : ℕ) (f : File) (next : ℕ) → reading r t from ≡ accepted f next → ReadsOn r t next → ReadsOn r t from
 
 -- file after file is read, and before the text's end one comes back with this number and place
-pub data ComesBack (a u p : ℕ) (t : List ℕ) : ℕ → ℕ → ℕ → Type 0 where
-  here : (from number place : ℕ) → reading (slices a u p) t from ≡ refused number place → ComesBack a u p t from number place
+pub data ComesBack (r : Slices) (t : List ℕ) : ℕ → ℕ → ℕ → Type 0 where
+  here : (from number place : ℕ) → reading r t from ≡ refused number place → ComesBack r t from number place
   further : (from : ℕ) (f : File) (next number place : ℕ)
-      → reading (slices a u p) t from ≡ accepted f next
+      → reading r t from ≡ accepted f next
       → next < length t
-      → ComesBack a u p t next number place
-      → ComesBack a u p t from number place
+      → ComesBack r t next number place
+      → ComesBack r t from number place

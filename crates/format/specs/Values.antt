@@ -7,9 +7,9 @@ use mathlib.Core.List.{List, [], _∷_}
 use lib.Dec.{eqb}
 use lib.ListN.{length, drop, getD}
 use lib.IntN.{ℤ, pos, negℤ}
-use Rattle.format.specs.Bytes.{minus, isDigit, startsLine}
+use Rattle.format.specs.Bytes.{lineEnd, minus, isDigit, startsLine}
 use Rattle.format.specs.Blocks.{Count, one, any, upTo, Block, columns}
-use Rattle.format.specs.Grammar.{namesText, File, rows}
+use Rattle.format.specs.Grammar.{namesOf, File, rows}
 
 -- what was read, and what is left of the text
 pub record Got (A : Type 0) : Type 0 where
@@ -32,12 +32,20 @@ unfoldable pub readValue : List ℕ → Got ℤ
 readValue [] = record { got = pos 0; left = [] }
 readValue (b ∷ t) = cond (eqb b minus) (withSign true (readDigits 18 0 t)) (withSign false (readDigits 18 0 (b ∷ t)))
 
--- so many values, each with the comma or LF after it
+-- past a comma, past the end of a line, and past what follows a value that so many follow on its line
+abbrev pub pastEnd : List ℕ → List ℕ
+pastEnd t = drop (length lineEnd) t
+
+abbrev pub past : ℕ → List ℕ → List ℕ
+past zero t = pastEnd t
+past (suc c) t = drop 1 t
+
+-- so many values, each with the comma or the line's end after it
 unfoldable pub readLine : ℕ → List ℕ → Got (List ℤ)
 readLine zero t = record { got = []; left = t }
 readLine (suc c) t =
     let v = readValue t in
-    let r = readLine c (drop 1 (v .left)) in
+    let r = readLine c (past c (v .left)) in
     record { got = v .got ∷ r .got; left = r .left }
 
 -- "a line of values begins at a digit or minus sign"
@@ -63,7 +71,7 @@ most (upTo n) t = n
 unfoldable pub readBlocks : List Block → List ℕ → Got (List (List (List ℤ)))
 readBlocks [] t = record { got = []; left = t }
 readBlocks (b ∷ bs) t =
-    let u = drop (length (namesText b)) t in
+    let u = pastEnd (drop (length (namesOf b)) t) in
     let ls = readLines (most (b .count) u) (columns b) u in
     let r = readBlocks bs (ls .left) in
     record { got = ls .got ∷ r .got; left = r .left }

@@ -9,11 +9,12 @@ use mir.Syntax.{w64}
 use mir.Val.{toZ, SFits}
 use borrow.Author.Needs.{needs}
 use borrow.Author.Tests.{lt-ltb}
-use Rattle.format.specs.Blocks.{free, slices}
+use Rattle.format.specs.Blocks.{Slices, free}
 use Rattle.format.specs.Machine.{start, judge, number, checkOf}
 use Rattle.format.specs.Reading.{scanAt}
 use Rattle.format.specs.declared.Scanned.the-variants.{Whole, Faulty, Full}
 use Rattle.format.proofs.FileCheck.{check-within}
+use Rattle.format.proofs.FileByFile.{AtLeast}
 use Rattle.format.proofs.CheckPlace.{never-too-many, check-fault, check-forward, check-on, check-last}
 
 -- a place of such a text is a number of 64 bits with a sign
@@ -31,23 +32,19 @@ module _ (t : List ℕ) where
   pub same-start : Same 0
   same-start = let e : 0 ≡ min 0 (length t) = omega arith in ap (λ (k : ℕ). judge (start free) k t) e
 
-  module _ (i : ℕ) (s : Same i) (n : ℕ) (l : n ≡ length t) where
-    enough : length t ≤ n
-    enough = omega arith
+  module _ (i : ℕ) (s : Same i) (r : Slices) (w : AtLeast (length t) r) where
+    pub goes-on : (next : ℕ) → scanAt r t i ≡ Whole next → next < length t → Same next
+    goes-on next e h = s ∙ check-on r t w i next e h
 
-    pub goes-on : (next : ℕ) → scanAt (slices n n n) t i ≡ Whole next → next < n → Same next
-    goes-on next e h = s ∙ check-on n n n t enough enough enough i next e (omega arith)
-
-    pub forward : (next : ℕ) → scanAt (slices n n n) t i ≡ Whole next → (i < next) × (next ≤ length t)
-    forward next e = check-forward n n n t enough enough enough i next e
+    pub forward : (next : ℕ) → scanAt r t i ≡ Whole next → (i < next) × (next ≤ length t)
+    forward next e = check-forward r t w i next e
 
     module _ (h : length t ≤ 1_000_000_000_000_000) where
-      pub all-read : (next : ℕ) → scanAt (slices n n n) t i ≡ Whole next → n ≤ next → negsuc 0 ≡ checkOf t
-      all-read next e k = sym (check-within t h ∙ ap number (s ∙ check-last n n n t enough enough enough i next e (omega arith)))
+      pub all-read : (next : ℕ) → scanAt r t i ≡ Whole next → length t ≤ next → negsuc 0 ≡ checkOf t
+      all-read next e k = sym (check-within t h ∙ ap number (s ∙ check-last r t w i next e k))
 
-      pub comes-back : (p : ℕ) → scanAt (slices n n n) t i ≡ Faulty p → p ≤ length t → toZ w64 p ≡ checkOf t
-      comes-back p e k =
-          place p (omega arith) ∙ sym (check-within t h ∙ ap number (s ∙ check-fault n n n t enough enough enough i p e))
+      pub comes-back : (p : ℕ) → scanAt r t i ≡ Faulty p → p ≤ length t → toZ w64 p ≡ checkOf t
+      comes-back p e k = place p (omega arith) ∙ sym (check-within t h ∙ ap number (s ∙ check-fault r t w i p e))
 
-      pub no-room : (p : ℕ) → scanAt (slices n n n) t i ≡ Full p → toZ w64 p ≡ checkOf t
-      no-room p e = absurd (never-too-many n n n t enough enough enough i p e)
+      pub no-room : (p : ℕ) → scanAt r t i ≡ Full p → toZ w64 p ≡ checkOf t
+      no-room p e = absurd (never-too-many r t w i p e)

@@ -7,7 +7,7 @@ use lib.ListN.{length}
 use Rattle.format.specs.Machine.{Item, State}
 use Rattle.format.specs.declared.Scanned.{Scanned}
 use Rattle.format.specs.declared.Scanned.the-variants.{Whole, Faulty, Full}
-use Rattle.monthfile.specs.Passing.{verdict, Within, Passes}
+use Rattle.monthfile.specs.Passing.{verdict, andThen, Within, Passes, Continues}
 
 -- the machine comes from one state and place to another
 abbrev pub Comes : List ℕ → ℕ → (List Item → State) → ℕ → (List Item → State) → Type 0
@@ -38,19 +38,33 @@ module _ (t : List ℕ) (i : ℕ) (s s' : List Item → State) where
   pub after : (j : ℕ) (m : List Item → State) {r : Scanned} → i ≤ j → Comes t i s j m → Passes t j m s' r → Passes t i s s' r
   after j m {r} h e p = record { goes = λ f. e f ∙ p .goes f; within = farther t i j r h (p .within) }
 
-  -- a refusal in the first part is one of both
-  pub stays-faulty : (m : List Item → State) (p : ℕ) → Passes t i s m (Faulty p) → Passes t i s s' (Faulty p)
-  stays-faulty m p x = record { goes = x .goes; within = x .within }
+  -- a part, and where it ended the next; a refusal in it is one of both
+  pub joined : (m : List Item → State) (n : ℕ) {r o : Scanned} → r ≡ Whole n → Passes t i s m r → Passes t n m s' o → Passes t i s s' o
+  joined m n e p q = let v = subst (Passes t i s m) e p in after n m (v .within .0) (v .goes) q
 
-  pub stays-full : (m : List Item → State) (p : ℕ) → Passes t i s m (Full p) → Passes t i s s' (Full p)
-  stays-full m p x = record { goes = x .goes; within = x .within }
+  pub ended-faulty : (m : List Item → State) (n : ℕ) {r : Scanned} → r ≡ Faulty n → Passes t i s m r → Passes t i s s' (Faulty n)
+  ended-faulty m n e p = let v = subst (Passes t i s m) e p in record { goes = v .goes; within = v .within }
+
+  pub ended-full : (m : List Item → State) (n : ℕ) {r : Scanned} → r ≡ Full n → Passes t i s m r → Passes t i s s' (Full n)
+  ended-full m n e p = let v = subst (Passes t i s m) e p in record { goes = v .goes; within = v .within }
 
   -- whatever items follow, also such with something before them
   pub before : (g : List Item → List Item) {r : Scanned} → Passes t i s s' r → Passes t i (λ f. s (g f)) (λ f. s' (g f)) r
   before g p = record { goes = λ f. p .goes (g f); within = p .within }
 
-  -- the same state, said otherwise
-  pub into : (o : List Item → State) (r : Scanned) → ((f : List Item) → s' f ≡ o f) → Passes t i s s' r → Passes t i s o r
-  into o (Whole n) e p = record { goes = λ f. p .goes f ∙ ap (λ (x : State). verdict t x n) (e f); within = p .within }
-  into o (Faulty n) e p = record { goes = p .goes; within = p .within }
-  into o (Full n) e p = record { goes = p .goes; within = p .within }
+-- after what was passed: where that did not end, nothing is added
+module _ (t : List ℕ) (s s' : List Item → State) where
+  pub goes-on : {r o : Scanned} (n : ℕ) → r ≡ Whole n → Passes t n s s' o → Continues t r s s' o
+  goes-on {r} {o} n e p =
+      record {
+        goes = λ f. ap (λ (x : Scanned). andThen x (λ k. verdict t (s f) k)) e ∙ p .goes f;
+        within = farther t 0 n o (omega arith) (p .within);
+      }
+
+  pub back-faulty : {r : Scanned} (p : ℕ) → r ≡ Faulty p → Within t 0 r → Continues t r s s' (Faulty p)
+  back-faulty p e w =
+      record { goes = λ f. ap (λ (x : Scanned). andThen x (λ k. verdict t (s f) k)) e; within = subst (Within t 0) e w }
+
+  pub back-full : {r : Scanned} (p : ℕ) → r ≡ Full p → Within t 0 r → Continues t r s s' (Full p)
+  back-full p e w =
+      record { goes = λ f. ap (λ (x : Scanned). andThen x (λ k. verdict t (s f) k)) e; within = subst (Within t 0) e w }

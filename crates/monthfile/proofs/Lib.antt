@@ -2,7 +2,7 @@
 --   Joining     parts of the text one after the other
 --   ValueSteps  in a value
 --   LineSteps   between values, and where lines begin
---   ItemSteps   by the table
+--   BlockSteps  names, and blocks one after the other
 --   Checking    the file check's answer from such verdicts
 -- What is read at a place of the text:
 --   DigitSteps  a value
@@ -13,7 +13,7 @@
 pub mod Joining
 pub mod ValueSteps
 pub mod LineSteps
-pub mod ItemSteps
+pub mod BlockSteps
 pub mod Checking
 pub mod DigitSteps
 pub mod ReadSteps

@@ -12,45 +12,61 @@ use borrow.Author.Tests.{eq-eqb, ne-eqb}
 use Rattle.format.specs.Bytes.{lf, comma, m, startsLine}
 use Rattle.format.specs.Blocks.{one, upTo}
 use Rattle.format.specs.Values.{lineHere}
-use Rattle.format.specs.Machine.{Item, lines, fresh, nought, State, stuck, at, value, isStuck, ends, inValue, enter, step, ended}
+use Rattle.format.specs.Machine.{Item, lines, fresh, nought, at, value, inValue, enter, step, ended}
 use Rattle.format.specs.Reading.{noRoom, scan}
 use Rattle.format.specs.declared.Scanned.the-variants.{Faulty, Full}
-use Rattle.monthfile.specs.Passing.{verdict, closing, opens, several}
+use Rattle.monthfile.specs.Passing.{verdict, atEnd, several}
 use Rattle.monthfile.proofs.ValueSteps.{here, byte-on, byte-stuck}
 
--- the byte after a value
-closed : (c : ℕ) (f : List Item) (b : ℕ) → b ≡ closing c → ends c f b ≡ opens c f
-closed zero f b e = rw (eq-eqb b lf e)
-closed (suc c) f b e = rw (eq-eqb b comma e)
-
-not-closed : (c : ℕ) (f : List Item) (b : ℕ) → (b ≡ closing c → ⊥) → ends c f b ≡ stuck
-not-closed zero f b e = rw (ne-eqb b lf e)
-not-closed (suc c) f b e = rw (ne-eqb b comma e)
-
-goes-on : (c : ℕ) (f : List Item) → isStuck (opens c f) ≡ false
-goes-on zero f = refl
-goes-on (suc c) f = refl
-
-module _ (t : List ℕ) (c : ℕ) (i : ℕ) (h : i < length t) where
-  pub closes : getD t i 0 ≡ closing c → (f : List Item) → verdict t (value nought c f) i ≡ verdict t (opens c f) (i + 1)
+-- the byte after a value: a comma, if more values follow on its line
+module _ (t : List ℕ) (c i : ℕ) (h : i < length t) where
+  pub comma-on : getD t i 0 ≡ comma → (f : List Item) → verdict t (value nought (suc c) f) i ≡ verdict t (value fresh c f) (i + 1)
   unfolding inValue
-  closes e f = byte-on t c f i h nought (opens c f) (closed c f (getD t i 0) e) (goes-on c f)
+  comma-on e f = byte-on t (suc c) f i h nought (value fresh c f) (rw (eq-eqb (getD t i 0) comma e)) refl
 
-  pub closes-not : (getD t i 0 ≡ closing c → ⊥) → (f : List Item) → verdict t (value nought c f) i ≡ Faulty i
+  pub comma-stuck : (getD t i 0 ≡ comma → ⊥) → (f : List Item) → verdict t (value nought (suc c) f) i ≡ Faulty i
   unfolding inValue
-  closes-not e f = byte-stuck t c f i h nought (not-closed c f (getD t i 0) e)
+  comma-stuck e f = byte-stuck t (suc c) f i h nought (rw (ne-eqb (getD t i 0) comma e))
 
--- before the last value there is a comma
-pub comma-next : (n : ℕ) → 0 < n → comma ≡ closing n
-comma-next zero h = absurd (not-suc-le-zero h)
-comma-next (suc n) h = refl
+-- where k values follow, k above 0
+pub one-more : (t : List ℕ) (i k : ℕ) → 0 < k → (f : List Item) → verdict t (value fresh k f) i ≡ verdict t (value fresh (suc (k - 1)) f) i
+one-more t i k h f = let e : k ≡ suc (k - 1) = omega arith in ap (λ (n : ℕ). verdict t (value fresh n f) i) e
 
-next-state : (n : ℕ) → 0 < n → (f : List Item) → opens n f ≡ value fresh (n - 1) f
-next-state zero h f = absurd (not-suc-le-zero h)
-next-state (suc n) h f = let e : suc n - 1 ≡ n = omega arith in rw e
+pub no-more : (t : List ℕ) (i k : ℕ) → k ≤ 0 → (f : List Item) → verdict t (value fresh k f) i ≡ verdict t (value fresh 0 f) i
+no-more t i k h f = let e : k ≡ 0 = omega arith in ap (λ (n : ℕ). verdict t (value fresh n f) i) e
 
-pub value-next : (t : List ℕ) (i n : ℕ) → 0 < n → (f : List Item) → verdict t (opens n f) i ≡ verdict t (value fresh (n - 1) f) i
-value-next t i n h f = ap (λ (s : State). verdict t s i) (next-state n h f)
+-- after the last value comes the line's end
+last-scan : (f : List Item) (i : ℕ) (u : List ℕ) → scan (value nought 0 f) i u ≡ scan (atEnd f) i u
+unfolding scan step enter inValue
+last-scan f i [] = refl
+last-scan f i (b ∷ u) = refl
+
+pub last-value : (t : List ℕ) (f : List Item) (i : ℕ) → verdict t (value nought 0 f) i ≡ verdict t (atEnd f) i
+last-value t f i = last-scan f i (drop i t)
+
+-- the end of a line
+module _ (f : List Item) (i b : ℕ) (u : List ℕ) where
+  end-scan : b ≡ lf → scan (atEnd f) i (b ∷ u) ≡ scan (at f) (i + 1) u
+  unfolding scan step enter
+  end-scan e = rw (eq-eqb b lf e)
+
+  no-end-scan : (b ≡ lf → ⊥) → scan (atEnd f) i (b ∷ u) ≡ Faulty i
+  unfolding scan step enter
+  no-end-scan e = rw (ne-eqb b lf e)
+
+text-over : (f : List Item) (i : ℕ) → scan (atEnd f) i [] ≡ Faulty i
+unfolding scan
+text-over f i = refl
+
+module _ (t : List ℕ) (i : ℕ) (f : List Item) where
+  pub end-on : i < length t → getD t i 0 ≡ lf → verdict t (atEnd f) i ≡ verdict t (at f) (i + 1)
+  end-on h e = rw (here t i h) (end-scan f i (getD t i 0) (drop (i + 1) t) e)
+
+  pub end-stuck : i < length t → (getD t i 0 ≡ lf → ⊥) → verdict t (atEnd f) i ≡ Faulty i
+  end-stuck h e = rw (here t i h) (no-end-scan f i (getD t i 0) (drop (i + 1) t) e)
+
+  pub end-missing : length t ≤ i → verdict t (atEnd f) i ≡ Faulty i
+  end-missing h = rw (drop-of-length-le t h) (text-over f i)
 
 -- the one line of a block begins at once
 only-scan : (c : ℕ) (f : List Item) (i : ℕ) (u : List ℕ) → scan (at (lines one c ∷ f)) i u ≡ scan (value fresh c f) i u

@@ -12,8 +12,8 @@ use Rattle.format.specs.Values.{readLine, lineHere}
 use Rattle.rules.specs.Lines.{pointOf}
 use Rattle.rules.specs.declared.Point.{Point}
 use Rattle.monthfile.specs.At.{Filled}
-use Rattle.monthfile.specs.Reads.{PointAt, PointsFilled}
-use Rattle.monthfile.specs.declared.points.PointLine.{PointLine}
+use Rattle.monthfile.specs.Parts.{PointAt, PointsFilled}
+use Rattle.monthfile.specs.declared.points.PointRead.{PointRead}
 use Rattle.monthfile.proofs.ReadSteps.{Block, block-none, block-more, block-over, block-full, block-length}
 
 -- a point of zeros, for an index past the end
@@ -43,7 +43,7 @@ module _ (t : List ℕ) (from room : ℕ) (ys : List Point) where
     pub same-length : room ≤ length ys → length zs ≡ length ys
     same-length h = block-length pointOf t from room 9 i n ys zs (f .1 .1) (omega (arith, f .1 .0))
 
-    pub next : room ≤ length ys → more i n ≡ true → (l : PointLine) → PointAt t i l → Facts (l .next) (n + 1) (set zs n (l .point))
+    pub next : room ≤ length ys → more i n ≡ true → (l : PointRead) → PointAt t i l → Facts (l .next) (n + 1) (set zs n (l .point))
     next h e l a =
         let k = room-left e in
         let b = both (ltb n room) (lineHere (drop i t)) e .1 in (
@@ -62,5 +62,5 @@ module _ (t : List ℕ) (from room : ℕ) (ys : List Point) where
         by true x y = block-over pointOf t from room 9 i n ys zs (f .1 .1) y (f .0)
         by false x y = block-full pointOf t from room 9 i n ys zs (f .1 .1) (ltb-false n room x) (f .0)
 
-    pub done : more i n ≡ false → PointsFilled t from room ys zs n
+    pub done : more i n ≡ false → PointsFilled pointOf t from room ys zs n
     done e = let x = filled e in record { count = x .count; stored = x .stored }

@@ -9,8 +9,8 @@ use native.Mathlib.Nat.{not-suc-le-zero, le-of-suc-le-suc}
 use lib.ListN.{length, drop, set, length-append, length-drop, length-map, drop-of-length-le}
 use lib.Seq.{drop-drop, set-append-seam}
 use lib.IntN.{ℤ}
-use Rattle.format.specs.Values.{Got, readValue, readLine, lineHere, readLines}
-use Rattle.monthfile.specs.At.{GotAt, LineAt, On, Filled}
+use Rattle.format.specs.Values.{Got, pastEnd, past, readValue, readLine, lineHere, readLines}
+use Rattle.monthfile.specs.At.{GotAt, LineAt, On, LeftAt, Filled, asRead}
 
 -- some, and then what is read further
 abbrev prefixed : {A : Type 0} → List A → Got (List A) → Got (List A)
@@ -52,6 +52,22 @@ on-drop t i by r o = drop-drop by i t ∙ at (decLe (length t) (i + by))
     at (yes h) = let l : length t ≤ r = omega (arith, o .is) in drop-of-length-le t h ∙ sym (drop-of-length-le t l)
     at (no h) = let l : i + by ≡ r = omega (arith, o .is, h) in ap (λ (n : ℕ). drop n t) l
 
+-- past the end of a line, past what follows a value, past names
+module _ (t : List ℕ) (i r : ℕ) where
+  pub on-end : On (length t) i 1 r → LeftAt t (pastEnd (drop i t)) r
+  on-end o = record { is = on-drop t i 1 r o; within = o .within }
+
+  pub at-end : (c : ℕ) → c ≡ 0 → LeftAt t (pastEnd (drop i t)) r → LeftAt t (past c (drop i t)) r
+  at-end zero e p = p
+  at-end (suc c) e p = absurd (omega arith)
+
+  pub on-comma : (c : ℕ) → (c ≡ 0 → ⊥) → On (length t) i 1 r → LeftAt t (past c (drop i t)) r
+  on-comma zero n o = absurd (n refl)
+  on-comma (suc c) n o = record { is = on-drop t i 1 r o; within = o .within }
+
+  pub on-names : (k j : ℕ) → On (length t) i k j → LeftAt t (pastEnd (drop j t)) r → LeftAt t (pastEnd (drop k (drop i t))) r
+  on-names k j o p = record { is = ap pastEnd (on-drop t i k j o) ∙ p .is; within = p .within }
+
 -- VALUES OF A LINE: k of them are in the row, and what is left begins at j
 pub record Row (t : List ℕ) (i j k : ℕ) (row₀ row : List ℤ) : Type 0 where
   pub values : List ℤ
@@ -65,7 +81,7 @@ row-none t i row₀ =
     record { values = []; count = refl; is = ap (λ (n : ℕ). readLine n (drop i t)) e; stored = refl }
 
 one-value : (n : ℕ) (u : List ℕ) → readLine (suc n) u
-    ≡ record { got = readValue u .got ∷ readLine n (drop 1 (readValue u .left)) .got; left = readLine n (drop 1 (readValue u .left)) .left }
+    ≡ record { got = readValue u .got ∷ readLine n (past n (readValue u .left)) .got; left = readLine n (past n (readValue u .left)) .left }
 unfolding readLine
 one-value n u = refl
 
@@ -76,16 +92,18 @@ no-more (suc n) u e = absurd (omega arith)
 
 module _ (t : List ℕ) (i j k : ℕ) (row₀ row : List ℤ) (v : Row t i j k row₀ row) where
   pub row-more :
-      (x : ℤ) (next next' : ℕ)
+      (x : ℤ) (next next' columns : ℕ)
+      → columns ≡ length row₀
       → k < length row₀
       → GotAt t (readValue (drop j t)) x next
-      → On (length t) next 1 next'
+      → LeftAt t (past (columns - (k + 1)) (drop next t)) next'
       → Row t i next' (k + 1) row₀ (set row k x)
-  row-more x next next' h g o =
+  row-more x next next' columns w h g o =
       let m : ℕ = length row₀ - (k + 1) in
       let q : length row₀ - k ≡ suc m = omega arith in
       let r = readLine m (drop next' t) in
-      let d : drop 1 (readValue (drop j t) .left) ≡ drop next' t = ap (drop 1) (g .left) ∙ on-drop t next 1 next' o in
+      let d : past m (readValue (drop j t) .left) ≡ drop next' t =
+      ap (past m) (g .left) ∙ ap (λ (n : ℕ). past (n - (k + 1)) (drop next t)) (sym w) ∙ o .is in
       let s : readLine (length row₀ - k) (drop j t) ≡ record { got = x ∷ r .got; left = r .left } =
       ap (λ (n : ℕ). readLine n (drop j t)) q ∙ one-value m (drop j t) ∙ rw (d, g .got) in
       record {
@@ -111,17 +129,17 @@ pub record Block {A : Type 0} (entry : List ℤ → A) (t : List ℕ) (i room c 
   pub is : readLines room c (drop i t) ≡ prefixed lines (readLines (room - n) c (drop j t))
   pub stored : xs ≡ map entry lines ++ drop n xs₀
 
-one-line : (k c : ℕ) (u : List ℕ) → lineHere u ≡ true → readLines (suc k) c u
+pub one-line : (k c : ℕ) (u : List ℕ) → lineHere u ≡ true → readLines (suc k) c u
     ≡ record { got = readLine c u .got ∷ readLines k c (readLine c u .left) .got; left = readLines k c (readLine c u .left) .left }
 unfolding readLines
 one-line k c u e = rw e
 
-none-full : (k c : ℕ) (u : List ℕ) → k ≡ 0 → readLines k c u ≡ record { got = []; left = u }
+pub none-full : (k c : ℕ) (u : List ℕ) → k ≡ 0 → readLines k c u ≡ record { got = []; left = u }
 unfolding readLines
 none-full zero c u e = refl
 none-full (suc k) c u e = absurd (omega arith)
 
-none-here : (k c : ℕ) (u : List ℕ) → lineHere u ≡ false → readLines k c u ≡ record { got = []; left = u }
+pub none-here : (k c : ℕ) (u : List ℕ) → lineHere u ≡ false → readLines k c u ≡ record { got = []; left = u }
 unfolding readLines
 none-here zero c u e = refl
 none-here (suc k) c u e = rw e
@@ -183,3 +201,36 @@ module _ {A : Type 0} (entry : List ℤ → A) (t : List ℕ) (i room c : ℕ) w
         let a = length-append (map entry (v .lines)) (drop n xs₀) in
         let z : length (map entry (v .lines)) ≡ n = length-map (v .lines) entry ∙ sym (v .count) in
         ap length (v .stored) ∙ omega arith
+
+-- A SLICE OF LINES BEING FILLED: n are in it, and what is left begins at i
+pub record Filling (t : List ℕ) (from c : ℕ) (xs₀ xs : List (List ℤ)) (i n : ℕ) : Type 0 where
+  pub few : n ≤ length xs₀
+  pub within : i ≤ length t
+  pub same-length : length xs ≡ length xs₀
+  pub block : Block asRead t from (length xs₀) c i n xs₀ xs
+
+module _ (t : List ℕ) (from c : ℕ) (xs₀ : List (List ℤ)) where
+  pub filling-none : from ≤ length t → Filling t from c xs₀ xs₀ from 0
+  filling-none h = record { few = omega arith; within = h; same-length = refl; block = block-none asRead t from (length xs₀) c xs₀ }
+
+  module _ (xs : List (List ℤ)) (i n : ℕ) (f : Filling t from c xs₀ xs i n) where
+    pub filling-more :
+        (l : List ℤ) (next : ℕ)
+        → n < length xs₀
+        → lineHere (drop i t) ≡ true
+        → LineAt t i c l next
+        → Filling t from c xs₀ (set xs n l) next (n + 1)
+    filling-more l next h e g =
+        let b = block-more asRead t from (length xs₀) c i n xs₀ xs (f .block) l l next h h e g refl in
+        record {
+          few = omega arith;
+          within = g .within;
+          same-length = block-length asRead t from (length xs₀) c next (n + 1) xs₀ (set xs n l) b (omega arith);
+          block = b;
+        }
+
+    pub filled-over : lineHere (drop i t) ≡ false → Filled asRead t from (length xs₀) c xs₀ xs n i
+    filled-over e = block-over asRead t from (length xs₀) c i n xs₀ xs (f .block) e (f .within)
+
+    pub filled-full : length xs₀ ≤ n → Filled asRead t from (length xs₀) c xs₀ xs n i
+    filled-full h = block-full asRead t from (length xs₀) c i n xs₀ xs (f .block) h (f .within)

@@ -24,10 +24,15 @@ ValueAt t i r = GotAt t (readValue (drop i t)) (r .value) (r .next)
 abbrev pub LineAt : List ℕ → ℕ → ℕ → List ℤ → ℕ → Type 0
 LineAt t i columns row next = GotAt t (readLine columns (drop i t)) row next
 
--- so many bytes on, at most to the end
-pub record On (length i by r : ℕ) : Type 0 where
-  pub is : r ≡ min (i + by) length
-  pub within : r ≤ length
+-- so many bytes on, at most to the end, which is at `size`
+pub record On (size i by r : ℕ) : Type 0 where
+  pub is : r ≡ min (i + by) size
+  pub within : r ≤ size
+
+-- what is left of the text begins at r
+pub record LeftAt (t left : List ℕ) (r : ℕ) : Type 0 where
+  pub is : left ≡ drop r t
+  pub within : r ≤ length t
 
 -- the lines read from i on, at most so many, stand in the slice, which is untouched beyond them; what is left begins at j
 pub record Filled {A : Type 0} (entry : List ℤ → A) (t : List ℕ) (i room c : ℕ) (xs₀ xs : List A) (n j : ℕ) : Type 0 where

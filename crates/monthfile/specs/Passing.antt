@@ -1,12 +1,11 @@
 -- What passing over a part of the text does to reading's verdict (format's `scan`): the machine comes to the state after that part, or the
 -- refusal is found in it. Assumes nothing.
-use Prim.Native.Nat.{ℕ, zero, suc, _+_, _≤_, _<_}
+use Prim.Native.Nat.{ℕ, _+_, _≤_, _<_}
 use mathlib.Core.Path.{_≡_}
-use mathlib.Core.List.{List, _∷_}
+use mathlib.Core.List.{List, _∷_, _++_, map}
 use lib.ListN.{length, drop}
-use Rattle.format.specs.Bytes.{comma, lf}
-use Rattle.format.specs.Blocks.{upTo}
-use Rattle.format.specs.Machine.{Item, lines, fresh, State, at, value}
+use Rattle.format.specs.Blocks.{Count, upTo}
+use Rattle.format.specs.Machine.{Item, byte, end, lines, laid, State, at}
 use Rattle.format.specs.Reading.{scan}
 use Rattle.format.specs.declared.Scanned.{Scanned}
 use Rattle.format.specs.declared.Scanned.the-variants.{Whole, Faulty, Full}
@@ -32,22 +31,30 @@ pub record Passes (t : List ℕ) (i : ℕ) (s s' : List Item → State) (r : Sca
   pub goes : (f : List Item) → verdict t (s f) i ≡ andThen r (λ n. verdict t (s' f) n)
   pub within : Within t i r
 
--- the byte after a value that so many follow on its line, and the state after that byte
-abbrev pub closing : ℕ → ℕ
-closing zero = lf
-closing (suc k) = comma
+-- the same from where r ended
+pub record Continues (t : List ℕ) (r : Scanned) (s s' : List Item → State) (o : Scanned) : Type 0 where
+  pub goes : (f : List Item) → andThen r (λ n. verdict t (s f) n) ≡ andThen o (λ n. verdict t (s' f) n)
+  pub within : Within t 0 o
 
-abbrev pub opens : ℕ → List Item → State
-opens zero f = at f
-opens (suc k) f = value fresh k f
+-- before the end of a line
+abbrev pub atEnd : List Item → State
+atEnd f = at (end ∷ f)
+
+-- before a line of these names
+abbrev pub atNames : List ℕ → List Item → State
+atNames names f = at (map byte names ++ (end ∷ f))
+
+-- before a block of these names, of so many lines, each with so many commas
+abbrev pub atBlock : List ℕ → Count → ℕ → List Item → State
+atBlock names n commas f = at (laid names n commas f)
 
 -- before lines of a block with so much room
 abbrev pub several : ℕ → ℕ → List Item → State
 several room commas f = at (lines (upTo room) commas ∷ f)
 
--- 17 digits after i, or the text's end if that comes first
-pub record DigitsEnd (length i r : ℕ) : Type 0 where
+-- 17 digits after i, or the text's end, at `size`, if that comes first
+pub record DigitsEnd (size i r : ℕ) : Type 0 where
   pub from : i ≤ r
-  pub within : r ≤ length
+  pub within : r ≤ size
   pub most : r ≤ i + 17
-  pub ends : r < length → r ≡ i + 17
+  pub ends : r < size → r ≡ i + 17

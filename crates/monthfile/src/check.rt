@@ -3,20 +3,17 @@ ghost use mathlib.Core.Path.{_≡_};
 ghost use Prim.Native.Nat.{_≤_};
 ghost use lib.ListN.{length};
 ghost use Rattle.format.specs.Machine.{checkOf};
-ghost use Rattle.monthfile.specs.Table.{table};
-use crate::scanner::SIZE;
-use crate::scanner::TABLE;
 use format::Scanned;
 
 // Files on end: −1, else the place of the 11 of the one that comes back. No slice is too short that is as long as the text.
-fn files(codes: &[u16; SIZE], text: &[u8]) -> i64
-    requires { ⌜ (now codes ≡ table) × (length (now text) ≤ 1_000_000_000_000_000) ⌝ }
+fn files(text: &[u8]) -> i64
+    requires { ⌜ length (now text) ≤ 1_000_000_000_000_000 ⌝ }
     ensures { λ r. ⌜ r ≡ checkOf (now (text .entry)) ⌝ }
 {
     let most = text.len();
     let mut at = 0;
     loop {
-        match crate::scanner::scan_by(codes, text, at, most, most, most) {
+        match crate::scanner::scan(text, at, [most, most, most]) {
             Scanned::Whole(n) => {
                 if most <= n {
                     return -1;
@@ -36,5 +33,5 @@ pub fn file_check(text: &[u8]) -> i64
     if 1_000_000_000_000_000 < text.len() {
         return -2;
     }
-    files(&TABLE, text)
+    files(text)
 }

@@ -1,14 +1,16 @@
 // The month file read (paper 01, "The month file", refusals 11 and 12).
-//   value, line, scanner      the verdict on a file: each byte looked at once, by a table of what stands in a file
-//   check                     the file check, over files on end
-//   values, records, reading  the values of an accepted file, written up to its points
-//   points, reader            the points in a lent slice of records, the whole reading, and the record that holds text and position
+//   names                  the names of each block, as bytes
+//   value, line, scanner   the verdict on a file: each byte looked at once, block by block
+//   check                  the file check, over files on end
+//   values, rows, reading  the values of an accepted file: a line, the lines of a block, the whole reading into lines
+//   points, reader         the same with the points in a lent slice of records, and the record that holds text and position
 pub mod check;
 pub mod line;
+pub mod names;
 pub mod points;
 pub mod reader;
 pub mod reading;
-pub mod records;
+pub mod rows;
 pub mod scanner;
 pub mod value;
 pub mod values;

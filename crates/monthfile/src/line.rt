@@ -1,29 +1,54 @@
-// Lines of values passed over (paper 01, "The month file"): values parted by commas, lines ended by LF.
+// Lines of values passed over (paper 01, "The month file"): values parted by commas, and what ends a line.
 ghost use mathlib.Core.Path.{_≡_};
-ghost use Prim.Native.Nat.{ℕ, _≤_};
+ghost use Prim.Native.Nat.{ℕ, suc, _≤_};
 ghost use lib.ListN.{length, drop};
-ghost use Rattle.format.specs.Blocks.{upTo};
 ghost use Rattle.format.specs.Bytes.{startsLine};
 ghost use Rattle.format.specs.Values.{lineHere};
 ghost use Rattle.format.specs.Machine.{fresh, at, value as inValue};
-ghost use Rattle.monthfile.specs.Passing.{Passes, closing, opens, several};
+ghost use Rattle.monthfile.specs.Passing.{Passes, atEnd, several};
 use format::Scanned;
 
-// A value with the byte that must follow it.
-fn entry(text: &[u8], i: usize, end: u8) -> Scanned
+// The end of a line, of names or of values.
+pub fn line_end(text: &[u8], i: usize) -> Scanned
     requires { ⌜ i ≤ length (now text) ⌝ }
-    ensures { λ r. ⌜ ((k : ℕ) → end ≡ closing k → Passes (now (text .entry)) i (inValue fresh k) (opens k) r) ⌝ }
+    ensures { λ r. ⌜ Passes (now (text .entry)) i atEnd at r ⌝ }
+{
+    if text.len() <= i {
+        return Scanned::Faulty(i);
+    }
+    if text[i] == b'\n' {
+        return Scanned::Whole(i + 1);
+    }
+    Scanned::Faulty(i)
+}
+
+// A value with the comma that must follow it.
+fn entry(text: &[u8], i: usize) -> Scanned
+    requires { ⌜ i ≤ length (now text) ⌝ }
+    ensures { λ r. ⌜ ((k : ℕ) → Passes (now (text .entry)) i (inValue fresh (suc k)) (inValue fresh k) r) ⌝ }
 {
     match crate::value::value(text, i) {
         Scanned::Whole(n) => {
             if text.len() <= n {
                 return Scanned::Faulty(n);
             }
-            if text[n] == end {
+            if text[n] == b',' {
                 return Scanned::Whole(n + 1);
             }
             Scanned::Faulty(n)
         }
+        Scanned::Faulty(p) => Scanned::Faulty(p),
+        Scanned::Full(p) => Scanned::Full(p),
+    }
+}
+
+// The last value of a line with the line's end.
+fn last(text: &[u8], i: usize) -> Scanned
+    requires { ⌜ i ≤ length (now text) ⌝ }
+    ensures { λ r. ⌜ Passes (now (text .entry)) i (inValue fresh 0) at r ⌝ }
+{
+    match crate::value::value(text, i) {
+        Scanned::Whole(n) => line_end(text, n),
         Scanned::Faulty(p) => Scanned::Faulty(p),
         Scanned::Full(p) => Scanned::Full(p),
     }
@@ -37,14 +62,14 @@ pub fn line(text: &[u8], i: usize, commas: u16) -> Scanned
     let mut here = i;
     let mut left = commas;
     while 0 < left {
-        match entry(text, here, b',') {
+        match entry(text, here) {
             Scanned::Whole(n) => here = n,
             Scanned::Faulty(p) => return Scanned::Faulty(p),
             Scanned::Full(p) => return Scanned::Full(p),
         }
         left -= 1;
     }
-    entry(text, here, b'\n')
+    last(text, here)
 }
 
 fn starts_line(b: u8) -> bool

@@ -1,28 +1,30 @@
 // Connection points read into a lent slice of records, and one file read whole (paper 01, "Where to use each form"). Only points_at
-// stores to the slice of points; what a line says is point_line's matter, and the verdict begin's.
+// stores to the slice of points; what a line says is point_line's matter, and the verdict judged's.
 ghost use mathlib.Core.Path.{_≡_};
 ghost use mathlib.Core.Bool.{_&&_};
 ghost use Prim.Native.Nat.{_≤_};
 ghost use lib.Dec.{ltb};
 ghost use lib.ListN.{length, drop};
 ghost use Rattle.format.specs.Values.{lineHere};
-ghost use Rattle.monthfile.specs.Reads.{PointAt, PointsFilled, Reads};
+ghost use Rattle.rules.specs.Lines.{pointOf};
+ghost use Rattle.monthfile.specs.Reads.{Reads, asPoints};
+ghost use Rattle.monthfile.specs.Parts.{PointAt, PointsFilled};
 use crate::line::line_here;
 use crate::reading::Reading;
-use crate::reading::begin;
-use crate::reading::finish;
+use crate::reading::answer;
+use crate::reading::judged;
 use crate::values::line_at;
 use rules::AgentLine;
 use rules::Point;
 use rules::UserLine;
 
 // A point, and the place after its line.
-pub struct PointLine {
+pub struct PointRead {
     pub point: Point,
     pub next: usize,
 }
 
-pub fn point_line(text: &[u8], at: usize) -> PointLine
+pub fn point_line(text: &[u8], at: usize) -> PointRead
     requires { ⌜ at ≤ length (now text) ⌝ }
     ensures { λ r. ⌜ PointAt (now (text .entry)) at r ⌝ }
 {
@@ -39,7 +41,7 @@ pub fn point_line(text: &[u8], at: usize) -> PointLine
         vp: row[7],
         vf: row[8],
     };
-    PointLine { point, next }
+    PointRead { point, next }
 }
 
 // Whether a further line begins here and there is room for it.
@@ -56,7 +58,7 @@ pub fn more_points(text: &[u8], at: usize, n: usize, room: usize) -> bool
 // The point lines from `at` on, at most `room` of them; how many there are is answered.
 pub fn points_at(text: &[u8], at: usize, room: usize, points: &mut [Point]) -> usize
     requires { ⌜ (at ≤ length (now text)) × (room ≤ length (now points)) ⌝ }
-    ensures { λ r. ⌜ PointsFilled (now (text .entry)) at room (now (points .entry)) (now (points .exit)) r ⌝ }
+    ensures { λ r. ⌜ PointsFilled pointOf (now (text .entry)) at room (now (points .entry)) (now (points .exit)) r ⌝ }
 {
     let mut i = at;
     let mut n = 0;
@@ -77,9 +79,11 @@ pub fn read_at(
     users: &mut [UserLine],
     points: &mut [Point],
 ) -> Reading
-    ensures { λ r. ⌜ Reads (now (text .entry)) from (now (agents .entry)) (now (users .entry)) (now (points .entry)) (now (agents .exit)) (now (users .exit)) (now (points .exit)) r ⌝ }
+    ensures { λ r. ⌜ Reads asPoints (now (text .entry)) from
+        (now (agents .entry)) (now (users .entry)) (now (points .entry))
+        (now (agents .exit)) (now (users .exit)) (now (points .exit)) r ⌝ }
 {
-    let b = begin(text, from, agents, users, points.len());
+    let b = judged(text, from, agents, users, points.len());
     let n = points_at(text, b.at, b.room, points);
-    finish(b, n)
+    answer(b, n)
 }

@@ -21,11 +21,11 @@ fn is_lead(b: u8) -> bool
 }
 
 // Where 17 further digits, or the text, would end.
-fn last_digit(length: usize, i: usize) -> usize
-    requires { ⌜ i ≤ length ⌝ }
-    ensures { λ r. ⌜ DigitsEnd length i r ⌝ }
+fn last_digit(size: usize, i: usize) -> usize
+    requires { ⌜ i ≤ size ⌝ }
+    ensures { λ r. ⌜ DigitsEnd size i r ⌝ }
 {
-    if length - i < 17 { length } else { i + 17 }
+    if size - i < 17 { size } else { i + 17 }
 }
 
 // The digits after the first of a value.

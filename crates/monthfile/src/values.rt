@@ -3,7 +3,8 @@ ghost use mathlib.Core.Path.{_≡_};
 ghost use Prim.Native.Nat.{_≤_};
 ghost use lib.ListN.{length, drop};
 ghost use Rattle.format.specs.Bytes.{isDigit};
-ghost use Rattle.monthfile.specs.At.{DigitsAt, ValueAt, LineAt, On};
+ghost use Rattle.format.specs.Values.{pastEnd, past};
+ghost use Rattle.monthfile.specs.At.{DigitsAt, ValueAt, LineAt, On, LeftAt};
 
 // A number read, and the place after it.
 pub struct Digits {
@@ -74,11 +75,39 @@ pub fn value_at(text: &[u8], at: usize) -> Value
 }
 
 // So many bytes on, at most to the end.
-pub fn on(length: usize, at: usize, by: usize) -> usize
-    requires { ⌜ at ≤ length ⌝ }
-    ensures { λ r. ⌜ On length at by r ⌝ }
+fn on(size: usize, at: usize, by: usize) -> usize
+    requires { ⌜ at ≤ size ⌝ }
+    ensures { λ r. ⌜ On size at by r ⌝ }
 {
-    if length - at < by { length } else { at + by }
+    if size - at < by { size } else { at + by }
+}
+
+// LeftAt the end of a line.
+fn past_end(text: &[u8], at: usize) -> usize
+    requires { ⌜ at ≤ length (now text) ⌝ }
+    ensures { λ r. ⌜ LeftAt (now (text .entry)) (pastEnd (drop at (now (text .entry)))) r ⌝ }
+{
+    on(text.len(), at, 1)
+}
+
+// LeftAt what stands after a value that so many follow on its line: a comma, or the line's end.
+fn past_value(text: &[u8], at: usize, left: usize) -> usize
+    requires { ⌜ at ≤ length (now text) ⌝ }
+    ensures { λ r. ⌜ LeftAt (now (text .entry)) (past left (drop at (now (text .entry)))) r ⌝ }
+{
+    if left == 0 {
+        past_end(text, at)
+    } else {
+        on(text.len(), at, 1)
+    }
+}
+
+// LeftAt a line of names.
+pub fn past_names(text: &[u8], at: usize, names: &[u8]) -> usize
+    requires { ⌜ at ≤ length (now text) ⌝ }
+    ensures { λ r. ⌜ LeftAt (now (text .entry)) (pastEnd (drop (length (now (names .entry))) (drop at (now (text .entry))))) r ⌝ }
+{
+    past_end(text, on(text.len(), at, names.len()))
 }
 
 // A line of as many values as the row has, each with the byte after it; the place after it is answered.
@@ -86,14 +115,15 @@ pub fn line_at(text: &[u8], at: usize, row: &mut [i64]) -> usize
     requires { ⌜ at ≤ length (now text) ⌝ }
     ensures { λ r. ⌜ LineAt (now (text .entry)) at (length (now (row .entry))) (now (row .exit)) r ⌝ }
 {
+    let columns = row.len();
     let mut i = at;
     let mut k = 0;
-    while k < row.len() {
+    while k < columns {
         let v = value_at(text, i);
         let x = v.value;
         row[k] = x;
-        i = on(text.len(), v.next, 1);
         k += 1;
+        i = past_value(text, v.next, columns - k);
     }
     i
 }

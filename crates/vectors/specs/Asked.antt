@@ -14,7 +14,7 @@ use Rattle.format.specs.Blocks.{slices}
 use Rattle.format.specs.Grammar.{more, line, File}
 use Rattle.format.specs.Machine.{format, inValue, enter, step, onward, judge, checkOf}
 use Rattle.format.specs.Values.{readDigits, readValue, readLine, readLines, readBlocks}
-use Rattle.format.specs.Reading.{Answer, scan, scanAt, reading}
+use Rattle.format.specs.Reading.{ReadingAnswer, scan, scanAt, reading}
 use Rattle.rules.specs.declared.Ledger.{Ledger}
 use Rattle.rules.specs.Verdict.{Verdict, accepted, refused, eachLine}
 use Rattle.rules.specs.Lists.{eachFrom, sideBySide}
@@ -116,7 +116,7 @@ closing c =
 -- readings.jsonl: the text, the position, the capacities of the slices for agents, users and points; reading's answer, and the file
 -- check's on the whole text
 pub record Texts : Type 0 where
-  pub reading : Answer
+  pub reading : ReadingAnswer
   pub check : ℤ
 
 unfoldable pub texts : String → ℕ → ℕ → ℕ → ℕ → Texts

@@ -1,15 +1,12 @@
--- Each value before the last has its comma, and the last its LF. Assumes nothing.
-use Prim.Native.Nat.{ℕ, _-_, _≤_}
-use mathlib.Core.Path.{_≡_, refl, ap, sym, _∙_}
+-- Each value before the last has its comma, and the last the line's end. Assumes nothing.
+use Prim.Native.Nat.{_-_, _≤_}
+use mathlib.Core.Path.{_≡_, refl, sym, _∙_}
 use native.Mathlib.Omega.{arith}
 use borrow.Author.Needs.{needs}
-use mathlib.Core.List.{List}
 use lib.ListN.{length}
-use Rattle.format.specs.Machine.{Item, fresh, value}
-use Rattle.format.specs.Bytes.{lf}
-use Rattle.monthfile.specs.Passing.{closing, opens}
-use Rattle.monthfile.proofs.Joining.{Comes, told, into, after, stays-faulty, stays-full}
-use Rattle.monthfile.proofs.LineSteps.{comma-next, value-next}
+use Rattle.format.specs.Machine.{fresh, value}
+use Rattle.monthfile.proofs.Joining.{Comes, told, after, ended-faulty, ended-full}
+use Rattle.monthfile.proofs.LineSteps.{one-more, no-more}
 use Rattle.monthfile.proofs.line.line.Statement.{statement}
 use Rattle.monthfile.proofs.line.line.Tie as tie
 
@@ -27,15 +24,15 @@ entry-requires c κs = omega arith
 
 returns : tie.Need-returns Inv-loop μ-loop
 returns c =
-    let at = c .before .before .before .before .before in
-    let e = c .before .before .before .entry .ensures (at .loop .left) (comma-next (at .loop .left) (omega arith)) in
-    after _ _ _ _ _ _ (omega arith) (at .loop .inv .1 .1) (stays-faulty _ _ _ _ _ _ (told _ _ _ _ (c .before .p .given .1) e))
+    let at = c .before .before .before .before .before .loop in
+    after _ _ _ _ _ _ (omega arith) (λ f. at .inv .1 .1 f ∙ one-more _ _ (at .left) (omega arith) f)
+    (ended-faulty _ _ _ _ _ _ (c .before .p .given .1) (c .before .before .before .entry .ensures (at .left - 1)))
 
 returns-2 : tie.Need-returns-2 Inv-loop μ-loop
 returns-2 c =
-    let at = c .before .before .before .before .before in
-    let e = c .before .before .before .entry .ensures (at .loop .left) (comma-next (at .loop .left) (omega arith)) in
-    after _ _ _ _ _ _ (omega arith) (at .loop .inv .1 .1) (stays-full _ _ _ _ _ _ (told _ _ _ _ (c .before .p2 .given .1) e))
+    let at = c .before .before .before .before .before .loop in
+    after _ _ _ _ _ _ (omega arith) (λ f. at .inv .1 .1 f ∙ one-more _ _ (at .left) (omega arith) f)
+    (ended-full _ _ _ _ _ _ (c .before .p2 .given .1) (c .before .before .before .entry .ensures (at .left - 1)))
 
 sub-left : tie.Need-sub-left Inv-loop μ-loop
 sub-left c = omega arith
@@ -45,21 +42,18 @@ loop-less c = omega arith
 
 loop-again : tie.Need-loop-again Inv-loop μ-loop
 loop-again c =
-    let at = c .before .before .before .before .before in
-    let e = told _ _ _ _ (c .before .n .given .1) (c .before .before .before .entry .ensures (at .loop .left) (comma-next (at .loop .left) (omega arith))) in
+    let at = c .before .before .before .before .before .loop in
+    let e = told _ _ _ _ (c .before .n .given .1) (c .before .before .before .entry .ensures (at .left - 1)) in
     let w = e .within in
-    (omega arith, (omega arith, λ f. at .loop .inv .1 .1 f ∙ e .goes f ∙ value-next _ _ (at .loop .left) (omega arith) f))
+    (omega arith, (omega arith, λ f. at .inv .1 .1 f ∙ one-more _ _ (at .left) (omega arith) f ∙ e .goes f))
 
-entry-requires-2 : tie.Need-entry-requires-2 Inv-loop μ-loop
-entry-requires-2 c κs = omega arith
+last-requires : tie.Need-last-requires Inv-loop μ-loop
+last-requires c κs = omega arith
 
 returns-3 : tie.Need-returns-3 Inv-loop μ-loop
 returns-3 c =
-    let at = c .before .before in
-    let z : at .loop .left ≡ 0 = omega arith in
-    let e : lf ≡ closing (at .loop .left) = ap closing (sym z) in
-    let o : (f : List Item) → opens (at .loop .left) f ≡ opens 0 f = λ f. ap (λ (n : ℕ). opens n f) z in
-    after _ _ _ _ _ _ (omega arith) (at .loop .inv .1 .1) (into _ _ _ _ _ _ o (c .entry2 .ensures (at .loop .left) e))
+    let at = c .before .before .loop in
+    after _ _ _ _ _ _ (omega arith) (λ f. at .inv .1 .1 f ∙ no-more _ _ (at .left) (omega arith) f) (c .last .ensures)
 
 pub line-spec : {M : Type 1} → statement M
 line-spec =
@@ -77,5 +71,5 @@ line-spec =
     sub-left
     loop-less
     loop-again
-    entry-requires-2
+    last-requires
     returns-3)

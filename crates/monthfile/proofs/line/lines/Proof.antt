@@ -8,7 +8,7 @@ use lib.ListN.{length}
 use Rattle.format.specs.Blocks.{upTo}
 use Rattle.format.specs.Machine.{Item, lines}
 use Rattle.monthfile.specs.Passing.{several}
-use Rattle.monthfile.proofs.Joining.{Comes, told, before, after, passed, full, stays-faulty, stays-full}
+use Rattle.monthfile.proofs.Joining.{Comes, told, before, after, passed, full, ended-faulty, ended-full}
 use Rattle.monthfile.proofs.LineSteps.{line-on, line-full, line-none}
 use Rattle.monthfile.proofs.line.lines.Statement.{statement}
 use Rattle.monthfile.proofs.line.lines.Tie as tie
@@ -39,19 +39,17 @@ line-requires c κs = omega arith
 
 returns-2 : tie.Need-returns-2 Inv-loop μ-loop
 returns-2 c =
-    let at = c .before .before .before .before .before .before .before in
+    let at = c .before .before .before .before .before .before .before .loop in
     let l = sym (c .before .before .before .before .before .before .line-here .ensures) ∙ c .before .before .before .before .before .if1 .taken in
-    let e = before _ _ _ _ (one-less (at .loop .left) _) (told _ _ _ _ (c .before .p .given .1) (c .before .before .before .line .ensures)) in
-    after _ _ _ _ _ _ (omega arith) (λ f. at .loop .inv .1 .1 f ∙ line-on _ _ _ f l _ (omega arith))
-    (stays-faulty _ _ _ _ _ _ e)
+    after _ _ _ _ _ _ (omega arith) (λ f. at .inv .1 .1 f ∙ line-on _ _ _ f l _ (omega arith))
+    (ended-faulty _ _ _ _ _ _ (c .before .p .given .1) (before _ _ _ _ (one-less (at .left) _) (c .before .before .before .line .ensures)))
 
 returns-3 : tie.Need-returns-3 Inv-loop μ-loop
 returns-3 c =
-    let at = c .before .before .before .before .before .before .before in
+    let at = c .before .before .before .before .before .before .before .loop in
     let l = sym (c .before .before .before .before .before .before .line-here .ensures) ∙ c .before .before .before .before .before .if1 .taken in
-    let e = before _ _ _ _ (one-less (at .loop .left) _) (told _ _ _ _ (c .before .p2 .given .1) (c .before .before .before .line .ensures)) in
-    after _ _ _ _ _ _ (omega arith) (λ f. at .loop .inv .1 .1 f ∙ line-on _ _ _ f l _ (omega arith))
-    (stays-full _ _ _ _ _ _ e)
+    after _ _ _ _ _ _ (omega arith) (λ f. at .inv .1 .1 f ∙ line-on _ _ _ f l _ (omega arith))
+    (ended-full _ _ _ _ _ _ (c .before .p2 .given .1) (before _ _ _ _ (one-less (at .left) _) (c .before .before .before .line .ensures)))
 
 sub-left : tie.Need-sub-left Inv-loop μ-loop
 sub-left c = omega arith

@@ -22,9 +22,11 @@ use prog.Wp.{Heap, Out, Env, Wp, WpFn, Tables, afterSeq, afterBlock, afterTurn, 
 use ghost.Atoms.{Atoms, sem}
 use contract.Monad.{Fun, fact}
 use contract.Running.{givenOf, tables, tablesOf}
-use types.Kit.{Given, Item, Sq, runs, anyQ, atRet, ‵, raw, _⊛_, ⋆, some, later, _$_, _∵_, !, qed, by, move, keep, drop, use1, use2, split, join, pick, rewrite, fsplit, fjoin, suffices, frame, await, done}
+use types.Kit.{Given, Item, Sq, runs, anyQ, atRet, ‵, raw, _⊛_, ⋆, some, later, _$_, _∵_, !, qed, by, move, keep, drop, use1, use2, split, join, pick}
+use types.Kit.{rewrite, fsplit, fjoin, suffices, frame, await, done}
 use types.Part.{whole, sub, look-in}
-use types.Run.{look, store, store-raw, init, forget, stop, hop, fld, from, load, lit, of-opd, bin, and-then, no-more, assigns, assigns-last, land, first, blocks, stays, leaves-loop, loops, again, Below, exec, returns, enter, alloc1, alloc0, params1, pass1, pass0, free1, free0}
+use types.Run.{look, store, store-raw, init, forget, stop, hop, fld, from, load, lit, of-opd, bin, and-then, no-more, assigns, assigns-last, land}
+use types.Run.{first, blocks, stays, leaves-loop, loops, again, Below, exec, returns, enter, alloc1, alloc0, params1, pass1, pass0, free1, free0}
 use sound.WpLaws.{FmC, fmOf, WpFn-mono}
 use denote.RattleType.{RattleType, owns}
 use denote.Laws.{Is, shows}
@@ -34,7 +36,8 @@ use denote.Builtin.{u8, usize, bool}
 use denote.Ref.{RefT, now}
 use denote.Signature.{plain}
 use denote.Index.{place-is, elem-out, elem-put, opens-slice, closes-slice}
-use denote.Slice.{sliceTy, sliceVal, ShrSlice, MutSlice, heres, Room, slice-vals, shr-slice-tells, shr-slice-copy, mut-slice-tells, at-slice, codedHoleys}
+use denote.Slice.{sliceTy, sliceVal, ShrSlice, MutSlice, heres, Room, slice-vals, shr-slice-tells, shr-slice-copy, mut-slice-tells, at-slice}
+use denote.Slice.{codedHoleys}
 use denote.Lend.{Held}
 use denote.Shadow.{pureI}
 use denote.Steps.{owned, peeks, heard, nothing, only}
@@ -45,16 +48,18 @@ use denote.Triple.Clauses.{ensured, lasts}
 use denote.Triple.Entry.{Vals, onEntry}
 use denote.Triple.Spec.{Meets, tripleOf}
 use denote.Triple.Table.{entered, cited}
-use denote.Triple.Walked.{says, needs, Stays, stay-none-slice, stay-none, stay-slice, walkOf, goes-none-slice, goes-none, goes-slice, Walks, ends-at, walked, walk-meets}
+use denote.Triple.Walked.{says, needs, Stays, stay-none-slice, stay-none, stay-slice, walkOf, goes-none-slice, goes-none, goes-slice, Walks, ends-at}
+use denote.Triple.Walked.{walked, walk-meets}
 use denote.Exit.{yes}
 use Rattle.rules.specs.declared.Point.{Point}
 use Rattle.rules.proofs.Point as T
 use Rattle.rules.proofs.Point.Laws as T′
-use Rattle.monthfile.specs.Reads.{PointAt, PointsFilled}
-use Rattle.monthfile.specs.declared.points.PointLine.{PointLine}
+use Rattle.rules.specs.Lines.{pointOf}
+use Rattle.monthfile.specs.Parts.{PointAt, PointsFilled}
+use Rattle.monthfile.specs.declared.points.PointRead.{PointRead}
 use Rattle.monthfile.proofs.PointSteps.{noPoint, Facts, more, start, room-left, same-length, next, done as filled}
-use Rattle.monthfile.proofs.points.PointLine as L
-use Rattle.monthfile.proofs.points.PointLine.Laws as L′
+use Rattle.monthfile.proofs.points.PointRead as L
+use Rattle.monthfile.proofs.points.PointRead.Laws as L′
 use Rattle.monthfile.proofs.points.more_points as more-points
 use Rattle.monthfile.proofs.points.more_points.Symbol as more-points-def
 use Rattle.monthfile.proofs.points.more_points.Symbol.{name as #more-points}
@@ -140,7 +145,7 @@ module _ {M : Type 1} (𝓤 : URA M) (H : Heap 𝓤) (A : Atoms 𝓤) (W : Given
   abbrev y′ : List Point → RefT (List Point)
   y′ zs = record { ptr = (b, o); name = γ; now = zs }
 
-  exits : (n : ℕ) (zs : List Point) → n < 2 ^ 64 → at < 2 ^ 64 → room < 2 ^ 64 → Room R (length ys) → length zs ≡ length ys → PointsFilled t at room ys zs n
+  exits : (n : ℕ) (zs : List Point) → n < 2 ^ 64 → at < 2 ^ 64 → room < 2 ^ 64 → Room R (length ys) → length zs ≡ length ys → PointsFilled pointOf t at room ys zs n
       → ent 𝓤 (⋆ 𝓤 H A (‵ Own ∷ ‵ (flft κ q) ∷ ‵ (flft κ′ q′) ∷ ‵ (Obs zs) ∷ ‵ (Bor zs) ∷ [])) (Post (vint w64 n))
   exits n zs gn ga gr gp len e =
       qed W (‵ Own ∷ ‵ (flft κ q) ∷ ‵ (flft κ′ q′) ∷ ‵ (Obs zs) ∷ ‵ (Bor zs) ∷ []) ∵
@@ -172,7 +177,7 @@ module _ {M : Type 1} (𝓤 : URA M) (H : Heap 𝓤) (A : Atoms 𝓤) (W : Given
       qed W (‵ (flft κ q) ∷ ‵ Own ∷ []) ∵ says ! l $ nothing ! $ move ! (1 ∷ 0 ∷ []) $ join ! $ frame ! $
       nothing ! $ owned ! usize (Is usize) (uint-makes 𝓤 H A W w64) i _ (refl, gi) $ fjoin ! $ move ! (1 ∷ 0 ∷ []) $ fjoin ! $ done !
 
-  line-said : (i : ℕ) (l : PointLine) → ent 𝓤 (ensured 𝓤 H A point-line.ended (point-line.clauses 𝓤 H A mem run) (κ, tt) (tx, (i, tt)) tt l) (fact 𝓤 (PointAt t i l))
+  line-said : (i : ℕ) (l : PointRead) → ent 𝓤 (ensured 𝓤 H A point-line.ended (point-line.clauses 𝓤 H A mem run) (κ, tt) (tx, (i, tt)) tt l) (fact 𝓤 (PointAt t i l))
   line-said i l = exE 𝓤 _ (λ ws. snd∗ 𝓤 (sem 𝓤 H A (lasts point-line.ended (κ, tt) (tx, (i, tt)) ws)) (fact 𝓤 (PointAt t i l)))
 
   module _ (𝓣 : Tables 𝓤 H) (fm : FmC 𝓤 H (W .laws) (𝓣 .C)) (known-more : Triple 𝓤 (𝓣 .C #more-points) (More 𝓤 H A mem run)) (known-line : Triple 𝓤 (𝓣 .C #point-line) (Line 𝓤 H A mem run)) (gt : Room u8 (length t)) (ga : at < 2 ^ 64) (gr : room < 2 ^ 64) (gp : Room R (length ys)) (fits : room ≤ length ys) where
@@ -218,7 +223,7 @@ module _ {M : Type 1} (𝓤 : URA M) (H : Heap 𝓤) (A : Atoms 𝓤) (W : Given
           split ! $ move ! (1 ∷ []) $ drop ! $ move ! (1 ∷ []) $ stays ! (load ! (from ! (stop !)) (look ! 9 refl)) $
           use1 W (‵ Own ⊛ ‵ Own) (shr-slice-copy 𝓤 H A W (named 0) κ u8 .twice tx (s ∷ [])) $ split ! $ move ! (2 ∷ 0 ∷ []) $ use2 W (raw (Line 𝓤 H A mem run .pre (to-line i))) (goes-line i (omega (arith, f .0, gt .0)) (f .0)) $
           calls-at ! fm (Line 𝓤 H A mem run) known-line (to-line i) (and-then ! (load ! (from ! (stop !)) (look ! 23 refl)) (and-then ! (load ! (from ! (stop !)) (look ! 15 refl)) (no-more !))) (λ v.
-          use1 W (later (some (λ (l : PointLine). ((‵ (flft κ q) ⊛ ‵ ftrue) ⊛ ‵ (RL .own l (v ∷ []))) ⊛ raw (ensured 𝓤 H A point-line.ended (point-line.clauses 𝓤 H A mem run) (κ, tt) (tx, (i, tt)) tt l)))) (id⊢ 𝓤 _) $ await ! tt $ pick ! (λ l.
+          use1 W (later (some (λ (l : PointRead). ((‵ (flft κ q) ⊛ ‵ ftrue) ⊛ ‵ (RL .own l (v ∷ []))) ⊛ raw (ensured 𝓤 H A point-line.ended (point-line.clauses 𝓤 H A mem run) (κ, tt) (tx, (i, tt)) tt l)))) (id⊢ 𝓤 _) $ await ! tt $ pick ! (λ l.
           split ! $ move ! (1 ∷ []) $ use1 W (raw (fact 𝓤 (PointAt t i l))) (line-said i l) $ heard ! (PointAt t i l) (λ a. split ! $ move ! (1 ∷ []) $
           peeks ! RL (Is RL) (shows 𝓤 H A RL) l (v ∷ []) (λ isl. land ! (from ! (stop !)) (init ! 12 refl (LL.lawful L.the-type L′.the-laws 𝓤 H A W .typed l _ isl .0)) $ rewrite ! 12 (λ (w : Val). ‵ (fat fullShare L′.mir l₇ 0 w)) (ap only (LL.tells L.the-type L′.the-laws l _ isl)) refl $ drop ! $
           split ! $ move ! (1 ∷ []) $ drop ! $

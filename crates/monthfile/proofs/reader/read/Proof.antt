@@ -20,9 +20,11 @@ use ghost.Atoms.{Atoms, sem}
 use contract.Lifetimes.{AllOutlive}
 use contract.Monad.{Fun, fact}
 use contract.Running.{givenOf, tables, tablesOf}
-use types.Kit.{Given, Item, ‵, raw, _⊛_, given, ⋆, some, later, _$_, _∵_, !, qed, by, move, keep, drop, use0, use1, use2, use3, split, join, learn, pick, rewrite, fsplit, fsplit3, fjoin, fjoin3, feqL, feqI, suffices, frame, await, done}
+use types.Kit.{Given, Item, ‵, raw, _⊛_, given, ⋆, some, later, _$_, _∵_, !, qed, by, move, keep, drop, use0, use1, use2, use3, split, join, learn}
+use types.Kit.{pick, rewrite, fsplit, fsplit3, fjoin, fjoin3, feqL, feqI, suffices, frame, await, done}
 use types.Part.{whole, sub, look-in, store-in, agg}
-use types.Run.{look, init, forget, stop, hop, fld, from, load, addr, of-opd, and-then, no-more, assigns, land, returns, enter, alloc1, alloc0, params1, pass1, pass0, free1, free0}
+use types.Run.{look, init, forget, stop, hop, fld, from, load, addr, of-opd, and-then, no-more, assigns, land, returns, enter, alloc1, alloc0}
+use types.Run.{params1, pass1, pass0, free1, free0}
 use types.SemTy.{Body}
 use sound.WpLaws.{FmC, fmOf, WpFn-mono}
 use denote.RattleType.{RattleType, owns}
@@ -50,7 +52,7 @@ use denote.Triple.Table.{entered, cited}
 use denote.Triple.Walked.{says, Stays, stay-ref, gave-slice, walkOf, goes-ref, goes-gave-slice, Walks, ends-at, walked, walk-meets}
 use Rattle.rules.specs.declared.Point.{Point}
 use Rattle.rules.proofs.Point as P
-use Rattle.monthfile.specs.Reads.{Reads, nextOf}
+use Rattle.monthfile.specs.Reads.{Reads, asPoints, nextOf}
 use Rattle.monthfile.specs.declared.reading.Reading.{Reading}
 use Rattle.monthfile.specs.declared.reader.Reader.{Reader}
 use Rattle.monthfile.proofs.reading.Reading as O
@@ -199,7 +201,7 @@ module _ {M : Type 1} (𝓤 : URA M) (H : Heap 𝓤) (A : Atoms 𝓤) (W : Given
 
   -- what reading says, of the slices' last lists
   abbrev Said : List (List ℤ) → List (List ℤ) → List Point → Reading → Type 0
-  Said as′ us′ ps′ r = Reads (tx .now) n (ra .now) (ru .now) (rp .now) as′ us′ ps′ r
+  Said as′ us′ ps′ r = Reads asPoints (tx .now) n (ra .now) (ru .now) (rp .now) as′ us′ ps′ r
 
   exits : (r : Reading) (u : Val) (m : ℕ) (as′ us′ : List (List ℤ)) (ps′ : List Point) → Is O.the-row r (u ∷ []) → Said as′ us′ ps′ r → m ≡ nextOf r n
       → length as′ ≡ length (ra .now) → length us′ ≡ length (ru .now) → length ps′ ≡ length (rp .now)

@@ -1,16 +1,36 @@
 -- Assumes nothing.
+use mathlib.Core.List.{_∷_}
 use native.Mathlib.Omega.{arith}
-use Rattle.monthfile.proofs.Joining.{after}
-use Rattle.monthfile.proofs.ItemSteps.{as-line, as-lines}
+use Rattle.format.specs.Blocks.{upTo}
+use Rattle.format.specs.Machine.{lines}
+use Rattle.monthfile.proofs.Joining.{told, before, joined, ended-faulty, ended-full}
 use borrow.Author.Needs.{needs}
 use Rattle.monthfile.proofs.scanner.block.Statement.{statement}
 use Rattle.monthfile.proofs.scanner.block.Tie as tie
 
+lines-requires : tie.Need-lines-requires
+lines-requires c κs = told _ _ _ _ (c .before .n .given .1) (c .before .before .before .names .ensures) .within .1
+
 returns : tie.Need-returns
-returns c = after _ _ _ _ _ _ (omega arith) (λ f. as-line _ _ _ _ f (omega arith) (omega arith)) (c .line .ensures)
+returns c =
+    joined _ _ _ _ _ _ (c .before .before .n .given .1) (before _ _ _ _ (λ f. lines (upTo _) _ ∷ f) (c .before .before .before .before .names .ensures))
+    (c .lines .ensures)
 
 returns-2 : tie.Need-returns-2
-returns-2 c = after _ _ _ _ _ _ (omega arith) (λ f. as-lines _ _ _ _ f (omega arith)) (c .lines .ensures)
+returns-2 c = ended-faulty _ _ _ _ _ _ (c .before .p .given .1) (before _ _ _ _ (λ f. lines (upTo _) _ ∷ f) (c .before .before .before .names .ensures))
+
+returns-3 : tie.Need-returns-3
+returns-3 c = ended-full _ _ _ _ _ _ (c .before .p2 .given .1) (before _ _ _ _ (λ f. lines (upTo _) _ ∷ f) (c .before .before .before .names .ensures))
 
 pub block-spec : {M : Type 1} → statement M
-block-spec = tie.close (tie.spec (λ c. search needs) (λ c κs. search needs) returns (λ c κs. search needs) returns-2)
+block-spec =
+    tie.close
+    (tie.spec
+    (λ c κs. search needs)
+    (λ c. search needs)
+    lines-requires
+    (λ c. search needs)
+    (λ c. search needs)
+    returns
+    returns-2
+    returns-3)

@@ -12,14 +12,14 @@ use Rattle.monthfile.proofs.values.line_at.Statement.{statement}
 use Rattle.monthfile.proofs.values.line_at.Tie as tie
 
 abbrev Inv-loop : tie.InvT-loop
-Inv-loop text at row₀ i₀ k₀ row i k =
-    (k ≤ length row₀) × ((i ≤ length text) × ((length row ≡ length row₀) × Row text at i k row₀ row))
+Inv-loop text at row₀ columns i₀ k₀ row i k =
+    ((columns ≡ length row₀) × (k ≤ length row₀)) × ((i ≤ length text) × ((length row ≡ length row₀) × Row text at i k row₀ row))
 
 abbrev μ-loop : tie.MeasureT-loop
-μ-loop text at row₀ i₀ k₀ row i k = length row₀ - k
+μ-loop text at row₀ columns i₀ k₀ row i k = length row₀ - k
 
 loop-holds : tie.Need-loop-holds Inv-loop μ-loop
-loop-holds c = (omega arith, (omega arith, (refl, row-none _ _ _)))
+loop-holds c = ((refl, omega arith), (omega arith, (refl, row-none _ _ _)))
 
 value-at-requires : tie.Need-value-at-requires Inv-loop μ-loop
 value-at-requires c κs = omega arith
@@ -30,21 +30,24 @@ mul-x c = omega arith
 slice-set-from-x : tie.Need-slice-set-from-x Inv-loop μ-loop
 slice-set-from-x c = omega arith
 
-on-requires : tie.Need-on-requires Inv-loop μ-loop
-on-requires c κs = c .before .value-at .ensures .within
-
 add-k : tie.Need-add-k Inv-loop μ-loop
 add-k c = omega arith
+
+past-value-requires : tie.Need-past-value-requires Inv-loop μ-loop
+past-value-requires c κs = c .before .value-at .ensures .within
 
 loop-less : tie.Need-loop-less Inv-loop μ-loop
 loop-less c = omega arith
 
 loop-again : tie.Need-loop-again Inv-loop μ-loop
 loop-again c =
-    let l = c .before .before .before .before .loop in
-    let f : SFits w64 (c .before .before .value-at .result .value) = search needs in
-    let r = row-more _ _ _ _ _ _ (l .inv .1 .1 .1) (toZ w64 (ofZ w64 (c .before .before .value-at .result .value))) _ _ (omega arith) (rw (toZ-ofZ f) (c .before .before .value-at .ensures)) (c .on .ensures) in
-    (omega arith, (c .on .ensures .within, (row-length _ _ _ _ _ _ r (omega arith), r)))
+    let v = c .before .before .value-at in
+    let turn = c .before .before .before .before .loop .inv .0 .0 in
+    let f : SFits w64 (v .result .value) = search needs in
+    let r =
+    row-more _ _ _ _ _ _ (c .before .before .before .before .loop .inv .1 .1 .1) (toZ w64 (ofZ w64 (v .result .value))) (v .result .next) _ _ turn (omega arith)
+    (rw (toZ-ofZ f) (v .ensures)) (c .past-value .ensures) in
+    ((turn, omega arith), (c .past-value .ensures .within, (row-length _ _ _ _ _ _ r (omega arith), r)))
 
 same-length : tie.Need-same-length Inv-loop μ-loop
 same-length c = c .before .loop .inv .1 .1 .0
@@ -62,8 +65,9 @@ line-at-spec =
     value-at-requires
     mul-x
     slice-set-from-x
-    on-requires
     add-k
+    (λ c. omega arith)
+    past-value-requires
     loop-less
     loop-again
     same-length

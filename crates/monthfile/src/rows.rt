@@ -2,10 +2,12 @@
 ghost use mathlib.Core.Path.{_≡_};
 ghost use Prim.Native.Nat.{_≤_};
 ghost use lib.ListN.{length};
+ghost use Rattle.format.specs.Blocks as Table;
 ghost use Rattle.monthfile.specs.At.{Filled, asRead};
 use crate::line::line_here;
 use crate::values::line_at;
 use rules::AgentLine;
+use rules::PointLine;
 use rules::UserLine;
 
 // How many lines were read, and the place after them.
@@ -16,7 +18,8 @@ pub struct Lines {
 
 pub fn agents_at(text: &[u8], at: usize, agents: &mut [AgentLine]) -> Lines
     requires { ⌜ at ≤ length (now text) ⌝ }
-    ensures { λ r. ⌜ Filled asRead (now (text .entry)) at (length (now (agents .entry))) 7 (now (agents .entry)) (now (agents .exit)) (r .count) (r .next) ⌝ }
+    ensures { λ r. ⌜ Filled asRead (now (text .entry)) at (length (now (agents .entry))) (length Table.agents)
+        (now (agents .entry)) (now (agents .exit)) (r .count) (r .next) ⌝ }
 {
     let mut i = at;
     let mut n = 0;
@@ -35,7 +38,8 @@ pub fn agents_at(text: &[u8], at: usize, agents: &mut [AgentLine]) -> Lines
 
 pub fn users_at(text: &[u8], at: usize, users: &mut [UserLine]) -> Lines
     requires { ⌜ at ≤ length (now text) ⌝ }
-    ensures { λ r. ⌜ Filled asRead (now (text .entry)) at (length (now (users .entry))) 3 (now (users .entry)) (now (users .exit)) (r .count) (r .next) ⌝ }
+    ensures { λ r. ⌜ Filled asRead (now (text .entry)) at (length (now (users .entry))) (length Table.users)
+        (now (users .entry)) (now (users .exit)) (r .count) (r .next) ⌝ }
 {
     let mut i = at;
     let mut n = 0;
@@ -44,6 +48,26 @@ pub fn users_at(text: &[u8], at: usize, users: &mut [UserLine]) -> Lines
             let mut row = [0i64; 3];
             i = line_at(text, i, &mut row);
             users[n] = row;
+            n += 1;
+        } else {
+            return Lines { count: n, next: i };
+        }
+    }
+    Lines { count: n, next: i }
+}
+
+pub fn points_at(text: &[u8], at: usize, points: &mut [PointLine]) -> Lines
+    requires { ⌜ at ≤ length (now text) ⌝ }
+    ensures { λ r. ⌜ Filled asRead (now (text .entry)) at (length (now (points .entry))) (length Table.points)
+        (now (points .entry)) (now (points .exit)) (r .count) (r .next) ⌝ }
+{
+    let mut i = at;
+    let mut n = 0;
+    while n < points.len() {
+        if line_here(text, i) {
+            let mut row = [0i64; 9];
+            i = line_at(text, i, &mut row);
+            points[n] = row;
             n += 1;
         } else {
             return Lines { count: n, next: i };

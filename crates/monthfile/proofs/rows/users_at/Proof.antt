@@ -1,0 +1,50 @@
+-- Each line is stored in its turn. Assumes nothing.
+use Prim.Native.Nat.{_-_}
+use mathlib.Core.Path.{sym, _∙_}
+use native.Mathlib.Omega.{arith}
+use borrow.Author.Needs.{needs}
+use lib.ListN.{length}
+use Rattle.monthfile.proofs.ReadSteps.{Filling, filling-none, filling-more, filled-over, filled-full}
+use Rattle.monthfile.proofs.rows.users_at.Statement.{statement}
+use Rattle.monthfile.proofs.rows.users_at.Tie as tie
+
+abbrev Inv-loop : tie.InvT-loop
+Inv-loop text at users₀ i₀ n₀ users i n = Filling text at 3 users₀ users i n
+
+abbrev μ-loop : tie.MeasureT-loop
+μ-loop text at users₀ i₀ n₀ users i n = length users₀ - n
+
+loop-holds : tie.Need-loop-holds Inv-loop μ-loop
+loop-holds c = filling-none _ _ _ _ (omega arith)
+
+loop-again : tie.Need-loop-again Inv-loop μ-loop
+loop-again c =
+    let turn = c .before .before .before .before .before .before in
+    filling-more _ _ _ _ _ _ _ (turn .loop .inv) _ _ (omega arith)
+    (sym (c .before .before .before .before .line-here .ensures) ∙ c .before .before .before .if1 .taken) (c .before .line-at .ensures)
+
+returns : tie.Need-returns Inv-loop μ-loop
+returns c = filled-over _ _ _ _ _ _ _ (c .before .before .before .loop .inv) (sym (c .before .line-here .ensures) ∙ c .if1 .left)
+
+returns-2 : tie.Need-returns-2 Inv-loop μ-loop
+returns-2 c = filled-full _ _ _ _ _ _ _ (c .before .loop .inv) (omega arith)
+
+pub users-at-spec : {M : Type 1} → statement M
+users-at-spec =
+    tie.close
+    (tie.spec
+    Inv-loop
+    μ-loop
+    loop-holds
+    (λ c κs. omega arith)
+    (λ c. search needs)
+    (λ c κs. omega arith)
+    (λ c. omega arith)
+    (λ c. omega arith)
+    (λ c. omega arith)
+    (λ c. omega arith)
+    loop-again
+    (λ c. c .before .before .before .loop .inv .same-length)
+    returns
+    (λ c. c .before .loop .inv .same-length)
+    returns-2)
