@@ -9,7 +9,8 @@ use borrow.Author.Tests.{eqb-true}
 use Rattle.format.specs.Bytes.{m}
 use Rattle.format.specs.Blocks.{one, any, upTo, free}
 use Rattle.format.specs.Grammar.{more, line, blocksText, File, fileText, Files, last, then}
-use Rattle.format.specs.Machine.{Item, byte, end, lines, format, State, stuck, at, value, enter, step, ended, final, endsBefore, start, onward, run, From, Accepted}
+use Rattle.format.specs.Machine.{Item, byte, end, lines, format, State, stuck, at, value, enter, step, ended, final, endsBefore, start, onward}
+use Rattle.format.specs.Machine.{run, From, Accepted}
 use Rattle.format.proofs.Live.{not-both, dead}
 use Rattle.format.proofs.Sound.{OneFile, sound}
 use Rattle.format.proofs.Takes.{takes}

@@ -15,10 +15,11 @@ use Rattle.format.specs.Grammar.{File, kindsOf, fileText, Fits, Few, fit
 use Rattle.format.specs.Machine.{State, start}
 use Rattle.format.specs.Language.{Begins, Place, Follows, Stands}
 use Rattle.format.specs.Values.{readBlocks, fileOf}
-use Rattle.format.specs.Reading.{scan, scanAt, Answer, accepted, refused, answer, reading, Over, Exceeds, Read, Why, faulty, tooLong, Back, Says}
+use Rattle.format.specs.Reading.{scan, scanAt, ReadingAnswer, accepted, refused, answer, reading, Over, Exceeds, Read, Why, faulty, tooLong}
+use Rattle.format.specs.Reading.{Back, Says}
 use Rattle.format.specs.declared.Scanned.{Scanned}
 use Rattle.format.specs.declared.Scanned.the-variants.{Whole, Faulty, Full}
-use Rattle.format.proofs.Live.{sound-format}
+use Rattle.format.proofs.Table.{sound-format}
 use Rattle.format.proofs.Places.{Later, one-place, no-place, same-place}
 use Rattle.format.proofs.Sound.{sound}
 use Rattle.format.proofs.Values.{values-back}
@@ -163,7 +164,7 @@ module _ (r : Slices) (t : List ℕ) (from : ℕ) where
   same-number q c d (tooLong e h b x) (tooLong f i g y) = e ∙ sym f
 
   -- PAPER 01'S WORDS LEAVE ONE ANSWER
-  pub one-answer : (x y : Answer) → Says r t from x → Says r t from y → x ≡ y
+  pub one-answer : (x y : ReadingAnswer) → Says r t from x → Says r t from y → x ≡ y
   one-answer (accepted f n) (accepted g o) c d =
       let e = same-file f g n o c d in
       let h : n ≡ o = c .next-is ∙ ap (λ (z : File). k + length (fileText z)) e ∙ sym (d .next-is) in
@@ -177,7 +178,7 @@ module _ (r : Slices) (t : List ℕ) (from : ℕ) where
       ap (λ (z : ℕ). refused z q) i ∙ ap (refused d) h
 
   -- so reading's answer is x exactly where paper 01 says x
-  pub reading-is : (x : Answer) → (reading r t from ≡ x) ↔ Says r t from x
+  pub reading-is : (x : ReadingAnswer) → (reading r t from ≡ x) ↔ Says r t from x
   reading-is x = (λ e. subst (Says r t from) e reads, λ c. one-answer (reading r t from) x reads c)
 
 -- THE ROUND TRIP: wherever the text of a file stands that the slices take, and the text ends after it or goes on with an `m`, that file is

@@ -15,12 +15,15 @@ use borrow.Author.Tests.{ne-eqb}
 use Rattle.format.specs.Bytes.{bytes}
 use Rattle.format.specs.Blocks.{one, any, upTo, month, kinds, Slices, free, blocksOf, blocks}
 use Rattle.format.specs.Grammar.{more, entries, line, File}
-use Rattle.format.specs.Machine.{Item, byte, end, lines, laidOut, State, stuck, at, value, isStuck, step, final, endsBefore, format, start, onward, Verdict, passes, fails, judge, number, checkOf}
-use Rattle.format.specs.Reading.{noRoom, tooMany, scan, scanAt, Answer, accepted, refused, answer, reading, ReadsOn, last, then, ComesBack, here, further}
+use Rattle.format.specs.Machine.{Item, byte, end, lines, laidOut, State, stuck, at, value, isStuck, step, final, endsBefore, format, start}
+use Rattle.format.specs.Machine.{onward, TextVerdict, passes, fails, judge, number, checkOf}
+use Rattle.format.specs.Reading.{noRoom, tooMany, scan, scanAt, ReadingAnswer, accepted, refused, answer, reading, ReadsOn, last, then}
+use Rattle.format.specs.Reading.{ComesBack, here, further}
 use Rattle.format.specs.Values.{readBlocks, fileOf}
 use Rattle.format.specs.declared.Scanned.{Scanned}
 use Rattle.format.specs.declared.Scanned.the-variants.{Whole, Faulty, Full}
-use Rattle.format.proofs.Live.{Holds, Kept, keep-step, sound-format}
+use Rattle.format.proofs.Live.{Holds, Kept, keep-step}
+use Rattle.format.proofs.Table.{sound-format}
 use Rattle.format.proofs.Accepts.{within, beyond}
 use Rattle.format.proofs.FileCheck.{check-within}
 use Rattle.format.proofs.Wide.{wide, wide-start, Wider, wider}
@@ -97,7 +100,7 @@ never-full s k (b ∷ t) a q e =
 
 -- THE FILE CHECK GOES FILE BY FILE
 -- from the end of a file on
-abbrev goesOn : ℕ → List ℕ → Verdict
+abbrev goesOn : ℕ → List ℕ → TextVerdict
 goesOn n [] = passes
 goesOn n (b ∷ t) = judge (start free) n (b ∷ t)
 
@@ -288,7 +291,7 @@ module _ (r : Slices) (t : List ℕ) (wide-enough : AtLeast (length t) r) where
   either zero from h = absurd (omega arith)
   either (suc fuel) from h = by (reading r t from) refl (λ next i. either fuel next i)
     where
-      by : (x : Answer) → reading r t from ≡ x
+      by : (x : ReadingAnswer) → reading r t from ≡ x
           → ((next : ℕ) → length t - next < fuel → ReadsOn r t next ⊎ ((c : ℕ) × ((q : ℕ) × ComesBack r t next c q)))
           → ReadsOn r t from ⊎ ((c : ℕ) × ((q : ℕ) × ComesBack r t from c q))
       by (refused c q) e o = inr (c, (q, here from c q e))

@@ -10,7 +10,7 @@ use Rattle.format.specs.Decimal.{shown}
 use Rattle.format.specs.Grammar.{more, line, linesText, blocksText, File, fileText}
 use Rattle.format.specs.Machine.{format, inValue, enter, step, onward, judge, checkOf}
 use Rattle.format.specs.Values.{readDigits, readValue, readLine, readLines, readBlocks}
-use Rattle.format.specs.Reading.{scan, scanAt, Answer, accepted, refused, reading}
+use Rattle.format.specs.Reading.{scan, scanAt, ReadingAnswer, accepted, refused, reading}
 
 -- "Input:" (paper 01, "The month file")
 abbrev pub input : String
@@ -88,7 +88,7 @@ unfolding checkOf judge onward format more line inValue enter step
 wrong-ends = refl
 
 -- READING, with slices for so many agents, users and points, at a position
-abbrev at : ℕ → ℕ → ℕ → ℕ → Answer
+abbrev at : ℕ → ℕ → ℕ → ℕ → ReadingAnswer
 at a u p from = reading (slices a u p) (bytes (input ++ input)) from
 
 -- one file after the other; at and past the end 11 at the text's length; in the middle of a file 11 there
@@ -104,7 +104,7 @@ unfolding reading scanAt scan readBlocks readLines readLine readValue readDigits
 too-many = refl
 
 -- 12 also where that line is faulty; at any other byte 11; and a fault before it comes first
-abbrev none : String → Answer
+abbrev none : String → ReadingAnswer
 none s = reading (slices 0 0 0) (bytes ("month,ons\n1,1\nagent,pb,pv,afs,rfs,pa,ret\n" ++ s)) 0
 
 whichever-first : none "-0" ∷ none "01" ∷ none "x" ∷ none "usex\n1" ∷ []

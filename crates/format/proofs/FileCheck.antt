@@ -10,9 +10,11 @@ use lib.IntN.{pos, negsuc}
 use borrow.Author.Tests.{lt-ltb, le-ltb}
 use Rattle.format.specs.Blocks.{free}
 use Rattle.format.specs.Grammar.{Files}
-use Rattle.format.specs.Machine.{State, stuck, isStuck, step, final, endsBefore, start, onward, run, Accepted, Verdict, passes, fails, judge, number, checkOf}
+use Rattle.format.specs.Machine.{State, stuck, isStuck, step, final, endsBefore, start, onward, run, Accepted, TextVerdict, passes, fails}
+use Rattle.format.specs.Machine.{judge, number, checkOf}
 use Rattle.format.specs.Language.{Begins, Place, Judged, Checked}
-use Rattle.format.proofs.Live.{not-both, Sound, Good, holds-cond, good-step, sound-format, complete, live, is-stuck}
+use Rattle.format.proofs.Live.{not-both, Sound, Good, holds-cond, good-step, complete, live, is-stuck}
+use Rattle.format.proofs.Table.{sound-format}
 use Rattle.format.proofs.Places.{Later, here-end, here-byte, later, one-place, no-place, same-place}
 use Rattle.format.proofs.Accepts.{On, joined, nothing, accepts}
 
@@ -34,7 +36,7 @@ no-end [] e = not-both false refl e
 no-end (b ∷ t) e = no-end t e
 
 -- what a verdict says, counted from k
-abbrev Claim : (List ℕ → Type 0) → List ℕ → ℕ → Verdict → Type 0
+abbrev Claim : (List ℕ → Type 0) → List ℕ → ℕ → TextVerdict → Type 0
 Claim L t k passes = L t
 Claim L t k (fails p) = Later L t k p
 
@@ -56,12 +58,12 @@ module _ (s : State) (b : ℕ) (t : List ℕ) (k : ℕ) where
             (λ w. no-end (w .rest) (subst (λ (x : State). On x (w .rest)) (is-stuck (onward s b) e) (w .whole)));
       }
 
-  lift : (v : Verdict) → Claim (On (onward s b)) t (k + 1) v → Claim (On s) (b ∷ t) k v
+  lift : (v : TextVerdict) → Claim (On (onward s b)) t (k + 1) v → Claim (On s) (b ∷ t) k v
   unfolding run
   lift passes a = a
   lift (fails p) l = record { past = suc (l .past); here = l .here ∙ omega arith; place = later (On s) b t (l .past) (l .place) }
 
-  turn : (v : Verdict) → Good s → isStuck s ≡ false
+  turn : (v : TextVerdict) → Good s → isStuck s ≡ false
       → (isStuck (onward s b) ≡ false → Claim (On (onward s b)) t (k + 1) v)
       → (q : Bool) → isStuck (onward s b) ≡ q → Claim (On s) (b ∷ t) k (cond q (fails k) v)
   turn v g n r true e = stuck-here g n e
@@ -73,7 +75,7 @@ claim s g n k [] = ended-here s k g n (final s) refl
 claim s g n k (b ∷ t) =
     turn s b t k (judge (onward s b) (k + 1) t) g n (λ e. claim (onward s b) (good-onward b s g) e (k + 1) t) (isStuck (onward s b)) refl
 
-from-nought : (t : List ℕ) (v : Verdict) → Claim Accepted t 0 v → Judged Files t v
+from-nought : (t : List ℕ) (v : TextVerdict) → Claim Accepted t 0 v → Judged Files t v
 from-nought t passes a = accepts t .0 a
 from-nought t (fails p) l =
     let e : l .past ≡ p = omega (arith, l .here) in
@@ -85,11 +87,11 @@ judged t = from-nought t (judge (start free) 0 t) (claim (start free) (sound-for
 
 -- what a verdict tells as a number
 module _ (t : List ℕ) where
-  fine-number : (v : Verdict) → Judged Files t v → (number v ≡ negsuc 0) ↔ Files t
+  fine-number : (v : TextVerdict) → Judged Files t v → (number v ≡ negsuc 0) ↔ Files t
   fine-number passes j = (λ e. j, λ f. refl)
   fine-number (fails p) j = (λ e. let z : _≡_ {A = ℕ} 0 1 = cc in absurd (omega arith), λ f. absurd (no-place Files t p j f))
 
-  place-number : (v : Verdict) → Judged Files t v → (p : ℕ) → (number v ≡ pos p) ↔ Place Files t p
+  place-number : (v : TextVerdict) → Judged Files t v → (p : ℕ) → (number v ≡ pos p) ↔ Place Files t p
   place-number passes j p = (λ e. let z : _≡_ {A = ℕ} 0 1 = cc in absurd (omega arith), λ a. absurd (no-place Files t p a j))
   place-number (fails q) j p =
       (λ e. let h : q ≡ p = cc in subst (λ (x : ℕ). Place Files t x) h j, λ a. ap pos (one-place Files t q p j a))

@@ -8,8 +8,10 @@ use lib.IntN.{ℤ}
 use Rattle.format.specs.Bytes.{lineEnd}
 use Rattle.format.specs.Blocks.{Block, columns, Slices, blocks}
 use Rattle.format.specs.Decimal.{All}
-use Rattle.format.specs.Grammar.{more, line, namesOf, namesText, linesText, blocksText, LineFits, Counted, BlocksFit, File, rows, fileText, Fits}
+use Rattle.format.specs.Grammar.{more, line, namesOf, namesText, linesText, blocksText, LineFits, Counted, BlocksFit, File, rows, fileText}
+use Rattle.format.specs.Grammar.{Fits}
 use Rattle.format.specs.Machine.{Item, byte, end, lines, laidOut, format}
+use Rattle.format.proofs.Table.{Headed, all-headed}
 
 -- a line and what follows it, entry by entry
 pub line-then : (v : List ℕ) (vs : List (List ℕ)) (x : List ℕ) → line (v ∷ vs) ++ x ≡ v ++ (more vs ++ (lineEnd ++ x))
@@ -45,10 +47,6 @@ module _ (f : List Item) (w : List (List (List ℤ))) where
   out-of-names [] a = a
   out-of-names (c ∷ ns) a = out-of-names ns a
 
--- a block has a column
-abbrev HasColumn : Block → Type 0
-HasColumn b = suc (columns b - 1) ≡ columns b
-
 abbrev to-come : Block → List Block → List Item
 to-come b bs = end ∷ lines (b .count) (columns b - 1) ∷ laidOut bs
 
@@ -61,24 +59,21 @@ same-text (b ∷ bs) (ls ∷ w) a =
     ∙ sym (append-assoc (namesOf b) lineEnd (linesText ls ++ spell (laidOut bs) w))
     ∙ ap (λ (l : List ℕ). namesText b ++ (linesText ls ++ l)) (same-text bs w (a .2))
 
-spells-fit : (bs : List Block) (w : List (List (List ℤ))) → All HasColumn bs → BlocksFit bs w → Spells (laidOut bs) w
+spells-fit : (bs : List Block) (w : List (List (List ℤ))) → All Headed bs → BlocksFit bs w → Spells (laidOut bs) w
 spells-fit [] [] h a = tt
 spells-fit [] (ls ∷ w) h a = a
 spells-fit (b ∷ bs) [] h a = absurd a
 spells-fit (b ∷ bs) (ls ∷ w) h a =
     into-names (to-come b bs) (ls ∷ w) (namesOf b)
-    (subst (λ (c : ℕ). All (LineFits c) ls) (sym (h .0)) (a .0), a .1, spells-fit bs w (h .1) (a .2))
+    (subst (λ (c : ℕ). All (LineFits c) ls) (sym (h .0 .column)) (a .0), a .1, spells-fit bs w (h .1) (a .2))
 
-fit-spells : (bs : List Block) (w : List (List (List ℤ))) → All HasColumn bs → Spells (laidOut bs) w → BlocksFit bs w
+fit-spells : (bs : List Block) (w : List (List (List ℤ))) → All Headed bs → Spells (laidOut bs) w → BlocksFit bs w
 fit-spells [] [] h a = tt
 fit-spells [] (ls ∷ w) h a = a
 fit-spells (b ∷ bs) [] h a = out-of-names (to-come b bs) [] (namesOf b) a
 fit-spells (b ∷ bs) (ls ∷ w) h a =
     let c = out-of-names (to-come b bs) (ls ∷ w) (namesOf b) a in
-    (subst (λ (n : ℕ). All (LineFits n) ls) (h .0) (c .0), c .1, fit-spells bs w (h .1) (c .2))
-
-all-have : (r : Slices) → All HasColumn (blocks r)
-all-have r = (refl, (refl, (refl, (refl, tt))))
+    (subst (λ (n : ℕ). All (LineFits n) ls) (h .0 .column) (c .0), c .1, fit-spells bs w (h .1) (c .2))
 
 -- a file's text, by the items
 pub file-text : (r : Slices) (f : File) → Fits r f → spell (format r) (rows f) ≡ fileText f
@@ -87,7 +82,7 @@ file-text r f a = same-text (blocks r) (rows f) a
 
 pub file-spells : (r : Slices) (f : File) → Fits r f → Spells (format r) (rows f)
 unfolding format
-file-spells r f a = spells-fit (blocks r) (rows f) (all-have r) a
+file-spells r f a = spells-fit (blocks r) (rows f) (all-headed r) a
 
 -- lines that fit the blocks are a file's
 pub record Filed (r : Slices) (w : List (List (List ℤ))) : Type 0 where
@@ -121,4 +116,4 @@ filed r (ls ∷ (ag ∷ (us ∷ (ps ∷ (x ∷ w))))) a = absurd (a .2 .2 .2 .2)
 -- what the items of a whole file spell is a file
 pub spelt : (r : Slices) (w : List (List (List ℤ))) → Spells (format r) w → Filed r w
 unfolding format
-spelt r w a = filed r w (fit-spells (blocks r) w (all-have r) a)
+spelt r w a = filed r w (fit-spells (blocks r) w (all-headed r) a)

@@ -7,9 +7,9 @@ use native.Mathlib.Omega.{arith}
 use lib.Dec.{ltb, eqb}
 use borrow.Author.Tests.{eq-eqb}
 use Rattle.format.specs.Bytes.{lf, lineEnd, comma, minus, isDigit, isLead, startsLine}
-use Rattle.format.specs.Blocks.{one, any, upTo, Slices}
-use Rattle.format.specs.Grammar.{more, line}
-use Rattle.format.specs.Machine.{Item, byte, end, lines, format, Part, fresh, signed, nought, digits, State, stuck, at, value, isStuck, lead, ends, inValue, enter, step, final, run, From}
+use Rattle.format.specs.Blocks.{one, any, upTo}
+use Rattle.format.specs.Machine.{Item, byte, end, lines, Part, fresh, signed, nought, digits, State, stuck, at, value, isStuck, lead, ends}
+use Rattle.format.specs.Machine.{inValue, enter, step, final, run, From}
 
 -- true is not false
 pub not-both : {X : Type 0} (t : Bool) → t ≡ false → t ≡ true → X
@@ -100,10 +100,6 @@ sound-kept = record { tail = tail; so = λ f s. s; less = λ n k f s. s }
 
 pub good-step : (b : ℕ) (s : State) → Good s → Good (step s b)
 good-step b s g = keep-step Sound Sound sound-kept b s g
-
-pub sound-format : (r : Slices) → Sound (format r)
-unfolding format more line
-sound-format r = (refl, (refl, (refl, (tt, tt))))
 
 -- THE SHORTEST WAY TO AN END: zeros to the end of a line, one line where there must be one, and the names
 zeros : ℕ → List ℕ

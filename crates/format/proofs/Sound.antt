@@ -14,7 +14,8 @@ use Rattle.format.specs.Blocks.{Count, one, any, upTo, Slices}
 use Rattle.format.specs.Decimal as D
 use Rattle.format.specs.Decimal.{text, Small, All, Numeral, Value}
 use Rattle.format.specs.Grammar.{more, line, lineText, linesText, LineFits, Counted, File, fileText, Fits}
-use Rattle.format.specs.Machine.{Item, byte, end, lines, format, Part, fresh, signed, nought, digits, State, stuck, at, value, lead, ends, inValue, enter, step, ended, final, start, run, From}
+use Rattle.format.specs.Machine.{Item, byte, end, lines, format, Part, fresh, signed, nought, digits, State, stuck, at, value, lead, ends}
+use Rattle.format.specs.Machine.{inValue, enter, step, ended, final, start, run, From}
 use Rattle.format.proofs.Decimals.{text-of}
 use Rattle.format.proofs.Live.{not-both, both}
 use Rattle.format.proofs.Laid.{line-then, spell, Spells, file-text, spelt}

@@ -12,9 +12,11 @@ use Rattle.format.specs.Blocks.{one, any, upTo, Slices}
 use Rattle.format.specs.Decimal as D
 use Rattle.format.specs.Decimal.{text, Small, All, Value}
 use Rattle.format.specs.Grammar.{more, lineText, linesText, LineFits, File, rows, fileText, Fits}
-use Rattle.format.specs.Machine.{Item, byte, end, lines, format, fresh, signed, nought, digits, State, at, value, ends, inValue, enter, step, final, start, run, From}
+use Rattle.format.specs.Machine.{Item, byte, end, lines, format, fresh, signed, nought, digits, State, at, value, ends, inValue, enter, step}
+use Rattle.format.specs.Machine.{final, start, run, From}
 use Rattle.format.proofs.Decimals.{value-of}
-use Rattle.format.proofs.Live.{Quiet, Sound, sound-format, hit, end-hit, skip-any, skip-upTo, go}
+use Rattle.format.proofs.Live.{Quiet, Sound, hit, end-hit, skip-any, skip-upTo, go}
+use Rattle.format.proofs.Table.{sound-format}
 use Rattle.format.proofs.Laid.{line-then, spell, Spells, file-text, file-spells}
 
 -- one byte on

@@ -13,10 +13,12 @@ use borrow.Author.Tests.{ne-eqb}
 use Rattle.format.specs.Bytes.{lf, lineEnd, comma, minus, isDigit, is-digit, startsLine, Digit}
 use Rattle.format.specs.Blocks.{Count, one, any, upTo, Block, columns, Slices, free, blocks}
 use Rattle.format.specs.Decimal.{shown, text, Small, All}
-use Rattle.format.specs.Grammar.{more, entries, line, namesOf, namesText, lineText, linesText, blocksText, LineFits, Counted, BlocksFit, File, rows, fileText, Fits}
+use Rattle.format.specs.Grammar.{more, entries, line, namesOf, namesText, lineText, linesText, blocksText, LineFits, Counted, BlocksFit, File}
+use Rattle.format.specs.Grammar.{rows, fileText, Fits}
 use Rattle.format.specs.Language.{Follows}
 use Rattle.format.specs.Values.{Got, pastEnd, readDigits, withSign, readValue, readLine, lineHere, readLines, most, readBlocks, fileOf}
 use Rattle.format.proofs.Decimals.{said, numeral, read-back}
+use Rattle.format.proofs.Table.{Named, Headed, all-headed}
 use Rattle.format.proofs.Laid.{line-then}
 use Rattle.format.proofs.Takes.{line-begun}
 
@@ -160,15 +162,6 @@ enough one ls x c = omega arith
 enough any ls x c = omega (arith, few-lines ls, length-append (linesText ls) x)
 enough (upTo n) ls x c = c
 
--- a block has a column, and its names begin no line of values
-abbrev Named : List ℕ → Type 0
-Named [] = ⊥
-Named (c ∷ t) = startsLine c ≡ false
-
-pub record Headed (b : Block) : Type 0 where
-  pub column : suc (columns b - 1) ≡ columns b
-  pub names : Named (namesOf b)
-
 no-line : (ns y : List ℕ) → Named ns → lineHere (ns ++ y) ≡ false
 no-line [] y n = absurd n
 no-line (c ∷ ns) y n = n
@@ -214,11 +207,6 @@ blocks-read (b ∷ bs) (ls ∷ w) u h a e =
   where
     block : Got (List (List ℤ)) → Got (List (List (List ℤ)))
     block g = blocked g (readBlocks bs (g .left))
-
-all-headed : (r : Slices) → All Headed (blocks r)
-unfolding more
-all-headed r =
-    (record { column = refl; names = refl }, (record { column = refl; names = refl }, (record { column = refl; names = refl }, (record { column = refl; names = refl }, tt))))
 
 pub no-line-after : (u : List ℕ) → Follows u → lineHere u ≡ false
 no-line-after [] f = refl

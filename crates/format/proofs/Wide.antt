@@ -13,7 +13,8 @@ use borrow.Author.Tests.{leb-true, le-leb, eq-eqb, ne-eqb}
 use Rattle.format.specs.Bytes.{minus, isDigit, startsLine}
 use Rattle.format.specs.Blocks.{Count, one, any, upTo, Block, columns, month, kinds, Slices, free, blocksOf}
 use Rattle.format.specs.Grammar.{namesOf}
-use Rattle.format.specs.Machine.{Item, byte, end, lines, laid, laidOut, format, fresh, signed, nought, State, stuck, at, value, isStuck, lead, inValue, enter, step, ended, final, endsBefore, start, run}
+use Rattle.format.specs.Machine.{Item, byte, end, lines, laid, laidOut, format, fresh, signed, nought, State, stuck, at, value, isStuck, lead}
+use Rattle.format.specs.Machine.{inValue, enter, step, ended, final, endsBefore, start, run}
 use Rattle.format.specs.Language.{Begins}
 use Rattle.format.specs.Reading.{noRoom, tooMany, scan}
 use Rattle.format.specs.declared.Scanned.{Scanned}

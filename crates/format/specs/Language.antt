@@ -9,7 +9,7 @@ use lib.IntN.{ℤ, pos, negsuc}
 use Rattle.format.specs.Bytes.{m}
 use Rattle.format.specs.Blocks.{Slices}
 use Rattle.format.specs.Grammar.{File, fileText, Fits, Files}
-use Rattle.format.specs.Machine.{Verdict, passes, fails}
+use Rattle.format.specs.Machine.{TextVerdict, passes, fails}
 
 -- a text of the language L begins so
 pub record Begins (L : List ℕ → Type 0) (t : List ℕ) : Type 0 where
@@ -25,7 +25,7 @@ pub record Place (L : List ℕ → Type 0) (t : List ℕ) (p : ℕ) : Type 0 whe
   pub unfinished : p ≡ length t → L t → ⊥
 
 -- what a verdict says of a text
-abbrev pub Judged : (List ℕ → Type 0) → List ℕ → Verdict → Type 0
+abbrev pub Judged : (List ℕ → Type 0) → List ℕ → TextVerdict → Type 0
 Judged L t passes = L t
 Judged L t (fails p) = Place L t p
 

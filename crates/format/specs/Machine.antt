@@ -127,17 +127,17 @@ abbrev pub Accepted : List ℕ → Type 0
 Accepted t = final (run onward (start free) t) ≡ true
 
 -- a text's verdict: it passes, or it fails at a place
-pub data Verdict : Type 0 where
-  passes : Verdict
-  fails : ℕ → Verdict
+pub data TextVerdict : Type 0 where
+  passes : TextVerdict
+  fails : ℕ → TextVerdict
 
 -- from state s, at the place k: the first byte with which the machine is stuck, or the end where the text may not end
-unfoldable pub judge : State → ℕ → List ℕ → Verdict
+unfoldable pub judge : State → ℕ → List ℕ → TextVerdict
 judge s k [] = cond (final s) passes (fails k)
 judge s k (b ∷ t) = cond (isStuck (onward s b)) (fails k) (judge (onward s b) (k + 1) t)
 
 -- a verdict as the file check's number: -1, else the place
-abbrev pub number : Verdict → ℤ
+abbrev pub number : TextVerdict → ℤ
 number passes = negsuc 0
 number (fails k) = pos k
 

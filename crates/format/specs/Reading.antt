@@ -49,18 +49,18 @@ unfoldable pub scanAt : Slices → List ℕ → ℕ → Scanned
 scanAt r t from = scan (start r) (min from (length t)) (drop from t)
 
 -- reading's answer: the file's values and the position after it, or paper 01's number and place
-pub data Answer : Type 0 where
-  accepted : File → ℕ → Answer
-  refused : ℕ → ℕ → Answer
+pub data ReadingAnswer : Type 0 where
+  accepted : File → ℕ → ReadingAnswer
+  refused : ℕ → ℕ → ReadingAnswer
 
 -- a verdict as an answer, with paper 01's number
-abbrev pub answer : File → Scanned → Answer
+abbrev pub answer : File → Scanned → ReadingAnswer
 answer f (Whole n) = accepted f n
 answer f (Faulty p) = refused 11 p
 answer f (Full p) = refused 12 p
 
 -- READING: the verdict on the file at the position, and where it is whole the file's values
-unfoldable pub reading : Slices → List ℕ → ℕ → Answer
+unfoldable pub reading : Slices → List ℕ → ℕ → ReadingAnswer
 reading r t from = answer (fileOf (readBlocks (blocks r) (drop from t) .got)) (scanAt r t from)
 
 pub past-the-end : (r : Slices) (t : List ℕ) (from : ℕ) → length t ≤ from → reading r t from ≡ reading r t (length t)
@@ -104,7 +104,7 @@ pub record Back (r : Slices) (t : List ℕ) (from number place : ℕ) : Type 0 w
   pub why : Why r (drop from t) past number
 
 -- what an answer says
-abbrev pub Says : (r : Slices) (t : List ℕ) (from : ℕ) → Answer → Type 0
+abbrev pub Says : (r : Slices) (t : List ℕ) (from : ℕ) → ReadingAnswer → Type 0
 Says r t from (accepted f next) = Read r t from f next
 Says r t from (refused number place) = Back r t from number place
 

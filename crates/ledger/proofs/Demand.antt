@@ -58,20 +58,20 @@ heldAt o = now (o .args .1 .1 .0)
 abbrev pub heldLeft : Opened → List ℤ
 heldLeft o = o .last .1 .1 .0
 
--- close(ledger, held, month, ons, agents, users, points, cells, work), its parts by name
+-- close(ledger, held, line, agents, users, points, cells, work), its parts by name
 abbrev pub plain : Called → Call
 plain c =
     let a = c .args .1 .1 in
     record {
       ledger = c .args .0;
       held = now (c .args .1 .0);
-      lines = monthLines (record { month = a .0; ons = a .1 .0 }) (now (a .1 .1 .0)) (now (a .1 .1 .1 .0)) (now (a .1 .1 .1 .1 .0));
-      cells = now (a .1 .1 .1 .1 .1 .0);
-      work = now (a .1 .1 .1 .1 .1 .1 .0);
+      lines = monthLines (a .0) (now (a .1 .0)) (now (a .1 .1 .0)) (now (a .1 .1 .1 .0));
+      cells = now (a .1 .1 .1 .1 .0);
+      work = now (a .1 .1 .1 .1 .1 .0);
       outcome = c .result;
       heldLeft = c .last .1 .0;
-      cellsLeft = c .last .1 .1 .1 .1 .1 .1 .1 .0;
-      workLeft = c .last .1 .1 .1 .1 .1 .1 .1 .1 .0;
+      cellsLeft = c .last .1 .1 .1 .1 .1 .1 .0;
+      workLeft = c .last .1 .1 .1 .1 .1 .1 .1 .0;
     }
 
 -- the first closing gets the ledger and the held credits of the opening, each later one those of the call before it

@@ -39,14 +39,14 @@ module _ {M : Type 1} (𝓤 : URA M) (H : Heap 𝓤) (𝓜 : Model 𝓤 H) (𝓖
   pub open-meets : Meets 𝓤 H (𝓖 .A) open'.signature (𝓡 .run open-code.routine) open-promise
   open-meets = open-met.met 𝓤 H 𝓜 𝓖 𝓡
 
-  -- close(ledger, held, month, ons, agents, users, points, cells, work)
+  -- close(ledger, held, line, agents, users, points, cells, work)
   abbrev pub close-promise : Spec 𝓤 close.signature
   close-promise κs a =
       let held = now (a .1 .0) in
       let b = a .1 .1 in
-      let l = monthLines (record { month = b .0; ons = b .1 .0 }) (now (b .1 .1 .0)) (now (b .1 .1 .1 .0)) (now (b .1 .1 .1 .1 .0)) in
-      let cells = now (b .1 .1 .1 .1 .1 .0) in
-      let work = now (b .1 .1 .1 .1 .1 .1 .0) in
+      let l = monthLines (b .0) (now (b .1 .0)) (now (b .1 .1 .0)) (now (b .1 .1 .1 .0)) in
+      let cells = now (b .1 .1 .1 .1 .0) in
+      let work = now (b .1 .1 .1 .1 .1 .0) in
       record {
         ghost = Unit {0};
         requires = λ g. emp 𝓤;
@@ -54,8 +54,8 @@ module _ {M : Type 1} (𝓤 : URA M) (H : Heap 𝓤) (𝓜 : Model 𝓤 H) (𝓖
             exits 𝓤 H (𝓖 .A) close.signature (close.ended .kept) κs a
             (λ e.
             let held′ = now (e .1 .0) in
-            let cells′ = now (e .1 .1 .1 .1 .1 .1 .1 .0) in
-            let work′ = now (e .1 .1 .1 .1 .1 .1 .1 .1 .0) in
+            let cells′ = now (e .1 .1 .1 .1 .1 .1 .0) in
+            let work′ = now (e .1 .1 .1 .1 .1 .1 .1 .0) in
             fact 𝓤
             (ByVerdict (refusal (stateOf (a .0) held) (shortSlices (stateOf (a .0) held) (lengthsOf held cells work)) l)
             (Closed (a .0) held l cells work r held′ cells′ work′)

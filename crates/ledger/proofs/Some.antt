@@ -10,6 +10,7 @@ use contract.Lifetimes.{Lfts}
 use denote.Ref.{RefT, now}
 use Rattle.ints.specs.Bridge.{za}
 use Rattle.rules.specs.declared.Ledger.{Ledger}
+use Rattle.rules.specs.declared.MonthLine.{MonthLine}
 use Rattle.rules.specs.declared.Answer.the-variants.{Accepted}
 use Rattle.rules.specs.declared.Outcome.{Outcome}
 use Rattle.rules.specs.declared.Point.{Point}
@@ -39,8 +40,7 @@ tables s l w short e =
 
 -- what a caller picks for a closing, besides the ledger and the held credits that it has
 pub record Month : Type 0 where
-  pub month : ℤ
-  pub ons : ℤ
+  pub line : MonthLine
   pub agents : List (List ℤ)
   pub users : List (List ℤ)
   pub points : List Point
@@ -51,17 +51,16 @@ abbrev pub picked : Called → Month
 picked c =
     let a = c .args .1 .1 in
     record {
-      month = a .0;
-      ons = a .1 .0;
-      agents = now (a .1 .1 .0);
-      users = now (a .1 .1 .1 .0);
-      points = now (a .1 .1 .1 .1 .0);
-      cells = now (a .1 .1 .1 .1 .1 .0);
-      work = now (a .1 .1 .1 .1 .1 .1 .0);
+      line = a .0;
+      agents = now (a .1 .0);
+      users = now (a .1 .1 .0);
+      points = now (a .1 .1 .1 .0);
+      cells = now (a .1 .1 .1 .1 .0);
+      work = now (a .1 .1 .1 .1 .1 .0);
     }
 
 abbrev input : Month → Input
-input m = record { lines = monthLines (record { month = m .month; ons = m .ons }) (m .agents) (m .users) (m .points); cells = m .cells; work = m .work }
+input m = record { lines = monthLines (m .line) (m .agents) (m .users) (m .points); cells = m .cells; work = m .work }
 
 -- a reference to these values, wherever it points
 abbrev lent : {X : Type 0} → X → RefT X
@@ -75,9 +74,9 @@ module _ (κs : Lfts 6) where
   called g held m r held′ cells′ work′ p =
       record {
         κs = κs;
-        args = (g, (lent held, (m .month, (m .ons, (lent (m .agents), (lent (m .users), (lent (m .points), (lent (m .cells), (lent (m .work), tt)))))))));
+        args = (g, (lent held, (m .line, (lent (m .agents), (lent (m .users), (lent (m .points), (lent (m .cells), (lent (m .work), tt))))))));
         result = r;
-        last = (tt, (held′, (tt, (tt, (tt, (tt, (tt, (cells′, (work′, tt)))))))));
+        last = (tt, (held′, (tt, (tt, (tt, (tt, (cells′, (work′, tt))))))));
         learnt = p;
       }
 

@@ -1,12 +1,13 @@
 // The ledger (paper 01, "The ledger"): opening, and closing a month. What is proved of every list of closings stands in proofs/Demand.
 ghost use mathlib.Core.Path.{_≡_};
-ghost use mathlib.Core.List.{List};
+ghost use mathlib.Core.List.{List, map};
 ghost use lib.IntN.{pos};
 ghost use lib.ListN.{length, replicate};
 ghost use Rattle.rules.specs.declared.Point.{Point};
-ghost use Rattle.rules.specs.Lines.{monthLines};
+ghost use Rattle.rules.specs.Lines.{pointOf, monthLines};
 ghost use Rattle.rules.specs.declared.Answer.the-variants.{Refused};
 ghost use Rattle.rules.specs.Calls.{emptyLedger, Opens, Closes};
+ghost use Rattle.records.specs.Taking.{Takes, FirstOf};
 ghost use Rattle.charges.specs.Scan.{ScanFinds};
 ghost use Rattle.ledger.specs.Finished.{Finishes};
 use charges::scan::Sums;
@@ -16,6 +17,7 @@ use rules::Ledger;
 use rules::MonthLine;
 use rules::Outcome;
 use rules::Point;
+use rules::PointLine;
 use rules::UserLine;
 
 // Sets every entry to 0.
@@ -120,41 +122,98 @@ fn finish(
     }
 }
 
-// The same with the month line taken apart.
-fn settle(
+// The month whose first 1,024 points are these lines; n counts all of them.
+fn close_first(
     ledger: Ledger,
     held: &mut [i64],
-    month: i64,
-    ons: i64,
+    line: MonthLine,
     agents: &[AgentLine],
     users: &[UserLine],
     n: usize,
-    s: Sums,
+    points: &[PointLine],
     cells: &mut [i64],
     work: &mut [u64],
 ) -> Outcome
-    requires { ⌜ ((points : List Point) × ScanFinds (now users) n s points) ⌝ }
-    ensures { λ r. ⌜ Finishes ledger (now (held .entry)) (record { month = month; ons = ons }) (now (agents .entry)) (now (users .entry)) n s (now (cells .entry)) (now (work .entry)) r (now (held .exit)) (now (cells .exit)) (now (work .exit)) ⌝ }
+    requires { ⌜ ((all : List Point) × FirstOf n all (now points)) ⌝ }
+    ensures { λ r. ⌜ ((all : List Point) → FirstOf n all (now (points .entry))
+        → Closes ledger (now (held .entry)) (monthLines line (now (agents .entry)) (now (users .entry)) all) (now (cells .entry)) (now (work .entry)) r (now (held .exit)) (now (cells .exit)) (now (work .exit))) ⌝ }
 {
-    let line = MonthLine { month, ons };
+    let s = charges::scan::scan(points, users);
     finish(ledger, held, line, agents, users, n, s, cells, work)
+}
+
+// Closes a month whose points are lines.
+pub fn close_lines(
+    ledger: Ledger,
+    held: &mut [i64],
+    line: MonthLine,
+    agents: &[AgentLine],
+    users: &[UserLine],
+    points: &[PointLine],
+    cells: &mut [i64],
+    work: &mut [u64],
+) -> Outcome
+    ensures { λ r. ⌜ Closes ledger (now (held .entry)) (monthLines line (now (agents .entry)) (now (users .entry)) (map pointOf (now (points .entry)))) (now (cells .entry)) (now (work .entry)) r (now (held .exit)) (now (cells .exit)) (now (work .exit)) ⌝ }
+{
+    let n = points.len();
+    let k = records::taken_count(n);
+    close_first(
+        ledger,
+        held,
+        line,
+        agents,
+        users,
+        n,
+        &points[..k],
+        cells,
+        work,
+    )
+}
+
+// The same of n points that were taken out of a slice of records.
+fn close_taken(
+    ledger: Ledger,
+    held: &mut [i64],
+    line: MonthLine,
+    agents: &[AgentLine],
+    users: &[UserLine],
+    n: usize,
+    lines: [PointLine; 1024],
+    cells: &mut [i64],
+    work: &mut [u64],
+) -> Outcome
+    requires { ⌜ ((points : List Point) × ((n ≡ length points) × Takes points lines)) ⌝ }
+    ensures { λ r. ⌜ ((points : List Point) → (n ≡ length points) → Takes points lines
+        → Closes ledger (now (held .entry)) (monthLines line (now (agents .entry)) (now (users .entry)) points) (now (cells .entry)) (now (work .entry)) r (now (held .exit)) (now (cells .exit)) (now (work .exit))) ⌝ }
+{
+    let k = records::taken_count(n);
+    close_first(
+        ledger,
+        held,
+        line,
+        agents,
+        users,
+        n,
+        &lines[..k],
+        cells,
+        work,
+    )
 }
 
 // Closes a month: refusals 1 to 10 with nothing changed, or the new held credits, the table of cells and the ledger with this month.
 pub fn close(
     ledger: Ledger,
     held: &mut [i64],
-    month: i64,
-    ons: i64,
+    line: MonthLine,
     agents: &[AgentLine],
     users: &[UserLine],
     points: &[Point],
     cells: &mut [i64],
     work: &mut [u64],
 ) -> Outcome
-    ensures { λ r. ⌜ Closes ledger (now (held .entry)) (monthLines (record { month = month; ons = ons }) (now (agents .entry)) (now (users .entry)) (now (points .entry))) (now (cells .entry)) (now (work .entry)) r (now (held .exit)) (now (cells .exit)) (now (work .exit)) ⌝ }
+    ensures { λ r. ⌜ Closes ledger (now (held .entry)) (monthLines line (now (agents .entry)) (now (users .entry)) (now (points .entry))) (now (cells .entry)) (now (work .entry)) r (now (held .exit)) (now (cells .exit)) (now (work .exit)) ⌝ }
 {
     let n = points.len();
-    let s = records::scan(points, users);
-    settle(ledger, held, month, ons, agents, users, n, s, cells, work)
+    let lines = records::taken(points);
+    close_taken(ledger, held, line, agents, users, n, lines, cells, work)
 }

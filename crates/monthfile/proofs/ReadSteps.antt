@@ -10,7 +10,7 @@ use lib.ListN.{length, drop, set, length-append, length-drop, length-map, drop-o
 use lib.Seq.{drop-drop, set-append-seam}
 use lib.IntN.{ℤ}
 use Rattle.format.specs.Values.{Got, pastEnd, past, readValue, readLine, lineHere, readLines}
-use Rattle.monthfile.specs.At.{GotAt, LineAt, On, Past, Filled, asRead}
+use Rattle.monthfile.specs.At.{GotAt, LineAt, On, LeftAt, Filled, asRead}
 
 -- some, and then what is read further
 abbrev prefixed : {A : Type 0} → List A → Got (List A) → Got (List A)
@@ -54,18 +54,18 @@ on-drop t i by r o = drop-drop by i t ∙ at (decLe (length t) (i + by))
 
 -- past the end of a line, past what follows a value, past names
 module _ (t : List ℕ) (i r : ℕ) where
-  pub on-end : On (length t) i 1 r → Past t (pastEnd (drop i t)) r
+  pub on-end : On (length t) i 1 r → LeftAt t (pastEnd (drop i t)) r
   on-end o = record { is = on-drop t i 1 r o; within = o .within }
 
-  pub at-end : (c : ℕ) → c ≡ 0 → Past t (pastEnd (drop i t)) r → Past t (past c (drop i t)) r
+  pub at-end : (c : ℕ) → c ≡ 0 → LeftAt t (pastEnd (drop i t)) r → LeftAt t (past c (drop i t)) r
   at-end zero e p = p
   at-end (suc c) e p = absurd (omega arith)
 
-  pub on-comma : (c : ℕ) → (c ≡ 0 → ⊥) → On (length t) i 1 r → Past t (past c (drop i t)) r
+  pub on-comma : (c : ℕ) → (c ≡ 0 → ⊥) → On (length t) i 1 r → LeftAt t (past c (drop i t)) r
   on-comma zero n o = absurd (n refl)
   on-comma (suc c) n o = record { is = on-drop t i 1 r o; within = o .within }
 
-  pub on-names : (k j : ℕ) → On (length t) i k j → Past t (pastEnd (drop j t)) r → Past t (pastEnd (drop k (drop i t))) r
+  pub on-names : (k j : ℕ) → On (length t) i k j → LeftAt t (pastEnd (drop j t)) r → LeftAt t (pastEnd (drop k (drop i t))) r
   on-names k j o p = record { is = ap pastEnd (on-drop t i k j o) ∙ p .is; within = p .within }
 
 -- VALUES OF A LINE: k of them are in the row, and what is left begins at j
@@ -96,7 +96,7 @@ module _ (t : List ℕ) (i j k : ℕ) (row₀ row : List ℤ) (v : Row t i j k r
       → columns ≡ length row₀
       → k < length row₀
       → GotAt t (readValue (drop j t)) x next
-      → Past t (past (columns - (k + 1)) (drop next t)) next'
+      → LeftAt t (past (columns - (k + 1)) (drop next t)) next'
       → Row t i next' (k + 1) row₀ (set row k x)
   row-more x next next' columns w h g o =
       let m : ℕ = length row₀ - (k + 1) in

@@ -14,8 +14,8 @@ use Rattle.format.specs.Reading.{reading, answer}
 use Rattle.format.specs.declared.Scanned.{Scanned}
 use Rattle.format.specs.declared.Scanned.the-variants.{Whole, Faulty, Full}
 use Rattle.monthfile.specs.At.{Filled, asRead}
-use Rattle.monthfile.specs.Reads.{header, over, Comes, Reads}
-use Rattle.monthfile.specs.Parts.{fileAt, Ready, Prepared, Judged, answerBy, answerOf, PointsFilled}
+use Rattle.monthfile.specs.Reads.{header, over, Gives, Reads}
+use Rattle.monthfile.specs.Parts.{fileAt, Ready, Prepared, Starts, answerBy, answerOf, PointsFilled}
 use Rattle.monthfile.specs.declared.reading.Reading.{Reading}
 use Rattle.monthfile.specs.declared.reading.Reading.the-variants.{Accepted}
 use Rattle.monthfile.specs.declared.reading.Started.{Started}
@@ -26,7 +26,7 @@ no-lines c u room e = ap (λ (k : ℕ). readLines k c u .got) e
 
 module _ (t : List ℕ) (from : ℕ) (as₀ us₀ : List (List ℤ)) (p : ℕ) (as' us' : List (List ℤ)) (b : Started) where
   -- points are read inside the text, and no more than there is room for
-  pub room-for : Judged t from as₀ us₀ p as' us' b → (b .at ≤ length t) × (b .room ≤ p)
+  pub room-for : Starts t from as₀ us₀ p as' us' b → (b .at ≤ length t) × (b .room ≤ p)
   room-for x = by (b .verdict) (x .prepared)
     where
       by : (v : Scanned) → Prepared t from as₀ us₀ p as' us' b v → (b .at ≤ length t) × (b .room ≤ p)
@@ -68,13 +68,13 @@ module _ {A : Type 0} (entry : List ℤ → A) (pointsOf : File → List A) (so 
       header-is : (next : ℕ) → answerBy b n (Whole next) ≡ Accepted (header f next)
       header-is next = rw (y .line, y .agents-count, y .users-count, count-is)
 
-    pub whole-read : Judged t from as₀ us₀ (length ps₀) as' us' b → (r : Reading) → r ≡ answerOf b n → Reads pointsOf t from as₀ us₀ ps₀ as' us' ps' r
+    pub whole-read : Starts t from as₀ us₀ (length ps₀) as' us' b → (r : Reading) → r ≡ answerOf b n → Reads pointsOf t from as₀ us₀ ps₀ as' us' ps' r
     unfolding reading
     whole-read x r e =
-        subst (λ (v : Scanned). Comes pointsOf (answer f v) as₀ us₀ ps₀ as' us' ps' r) (x .verdict) (by (b .verdict) e (x .prepared))
+        subst (λ (v : Scanned). Gives pointsOf (answer f v) as₀ us₀ ps₀ as' us' ps' r) (x .verdict) (by (b .verdict) e (x .prepared))
       where
         by : (v : Scanned) → r ≡ answerBy b n v → Prepared t from as₀ us₀ (length ps₀) as' us' b v
-            → Comes pointsOf (answer f v) as₀ us₀ ps₀ as' us' ps' r
+            → Gives pointsOf (answer f v) as₀ us₀ ps₀ as' us' ps' r
         by (Whole next) e y =
             record { answer = e ∙ header-is y next; agents-are = y .agents-are; users-are = y .users-are; points-are = points-over y }
         by (Faulty place) e y =
@@ -91,7 +91,11 @@ few-read (suc k) c u = by (lineHere u) (few-read k c (readLine c u .left))
     l = readLines k c (readLine c u .left) .got
 
     by : (q : Bool) → length l ≤ k
-        → length (cond {A = Got (List (List ℤ))} q (record { got = readLine c u .got ∷ l; left = readLines k c (readLine c u .left) .left }) (record { got = []; left = u }) .got) ≤ suc k
+        → length
+        (cond {A = Got (List (List ℤ))} q
+        (record { got = readLine c u .got ∷ l; left = readLines k c (readLine c u .left) .left })
+        (record { got = []; left = u }) .got)
+        ≤ suc k
     by true h = omega arith
     by false h = omega arith
 

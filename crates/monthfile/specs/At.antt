@@ -30,7 +30,7 @@ pub record On (size i by r : ℕ) : Type 0 where
   pub within : r ≤ size
 
 -- what is left of the text begins at r
-pub record Past (t left : List ℕ) (r : ℕ) : Type 0 where
+pub record LeftAt (t left : List ℕ) (r : ℕ) : Type 0 where
   pub is : left ≡ drop r t
   pub within : r ≤ length t
 

@@ -4,6 +4,7 @@ use mathlib.Core.Path.{_≡_}
 use mathlib.Core.List.{List, [], _++_, map}
 use lib.ListN.{length, drop, getD}
 use lib.IntN.{ℤ, pos}
+use Rattle.format.specs.Blocks as Table
 use Rattle.format.specs.Blocks.{Slices, slices, blocks}
 use Rattle.format.specs.Grammar.{File}
 use Rattle.format.specs.Values.{readLine, readLines, readBlocks, fileOf}
@@ -25,8 +26,8 @@ monthOf ls = let l = getD ls 0 [] in record { month = getD l 0 (pos 0); ons = ge
 
 -- the month line at a place, and what is left after it
 pub record MonthAt (t : List ℕ) (i : ℕ) (r : MonthRead) : Type 0 where
-  pub line : r .line ≡ monthOf (readLines 1 2 (drop i t) .got)
-  pub left : readLines 1 2 (drop i t) .left ≡ drop (r .next) t
+  pub line : r .line ≡ monthOf (readLines 1 (length Table.month) (drop i t) .got)
+  pub left : readLines 1 (length Table.month) (drop i t) .left ≡ drop (r .next) t
   pub within : r .next ≤ length t
 
 -- the file at a position, for slices of such lengths
@@ -40,7 +41,7 @@ pub record Ready (t : List ℕ) (f : File) (agents users : List (List ℤ)) (p :
   pub users-count : b .users ≡ length (f .users)
   pub agents-are : agents' ≡ over (f .agents) agents
   pub users-are : users' ≡ over (f .users) users
-  pub points-are : readLines p 9 (drop (b .at) t) .got ≡ f .points
+  pub points-are : readLines p (length Table.points) (drop (b .at) t) .got ≡ f .points
   pub room : b .room ≡ p
   pub within : b .at ≤ length t
 
@@ -58,7 +59,7 @@ Prepared t from agents users p agents' users' b (Faulty n) = Unread t agents use
 Prepared t from agents users p agents' users' b (Full n) = Unread t agents users agents' users' b
 
 -- judged, and read up to the points where it is accepted
-pub record Judged (t : List ℕ) (from : ℕ) (agents users : List (List ℤ)) (p : ℕ) (agents' users' : List (List ℤ)) (b : Started) : Type 0 where
+pub record Starts (t : List ℕ) (from : ℕ) (agents users : List (List ℤ)) (p : ℕ) (agents' users' : List (List ℤ)) (b : Started) : Type 0 where
   pub verdict : b .verdict ≡ scanAt (slices (length agents) (length users) p) t from
   pub prepared : Prepared t from agents users p agents' users' b (b .verdict)
 
@@ -73,11 +74,11 @@ answerOf b n = answerBy b n (b .verdict)
 
 -- points read from a place on, at most so many, into their slice, each as its entry
 pub record PointsFilled {A : Type 0} (entry : List ℤ → A) (t : List ℕ) (i room : ℕ) (points points' : List A) (n : ℕ) : Type 0 where
-  pub count : n ≡ length (readLines room 9 (drop i t) .got)
-  pub stored : points' ≡ map entry (readLines room 9 (drop i t) .got) ++ drop n points
+  pub count : n ≡ length (readLines room (length Table.points) (drop i t) .got)
+  pub stored : points' ≡ map entry (readLines room (length Table.points) (drop i t) .got) ++ drop n points
 
 -- a point's line at a place
 pub record PointAt (t : List ℕ) (i : ℕ) (r : PointRead) : Type 0 where
-  pub point : r .point ≡ pointOf (readLine 9 (drop i t) .got)
-  pub left : readLine 9 (drop i t) .left ≡ drop (r .next) t
+  pub point : r .point ≡ pointOf (readLine (length Table.points) (drop i t) .got)
+  pub left : readLine (length Table.points) (drop i t) .left ≡ drop (r .next) t
   pub within : r .next ≤ length t

@@ -6,7 +6,7 @@ use lib.ListN.{length, drop}
 use lib.IntN.{ℤ}
 use Rattle.format.specs.Blocks.{slices}
 use Rattle.format.specs.Grammar.{File}
-use Rattle.format.specs.Reading.{reading, Answer, accepted, refused}
+use Rattle.format.specs.Reading.{reading, ReadingAnswer, accepted, refused}
 use Rattle.rules.specs.Lines.{pointOf}
 use Rattle.rules.specs.declared.MonthLine.{MonthLine}
 use Rattle.rules.specs.declared.Point.{Point}
@@ -28,7 +28,7 @@ header f next =
       next = next;
     }
 
-abbrev pub answered : Answer → Reading
+abbrev pub answered : ReadingAnswer → Reading
 answered (accepted f next) = Accepted (header f next)
 answered (refused number place) = Refused number place
 
@@ -36,7 +36,7 @@ answered (refused number place) = Refused number place
 abbrev pub over : {A : Type 0} → List A → List A → List A
 over xs ys = xs ++ drop (length xs) ys
 
-abbrev pub after : {A : Type 0} → (File → List A) → Answer → List A → List A
+abbrev pub after : {A : Type 0} → (File → List A) → ReadingAnswer → List A → List A
 after lines (accepted f next) xs = over (lines f) xs
 after lines (refused number place) xs = xs
 
@@ -53,8 +53,8 @@ abbrev pub asPoints : File → List Point
 asPoints f = map pointOf (f .points)
 
 -- what an answer comes with: what is told, and the slices afterwards
-pub record Comes {A : Type 0}
-    (pointsOf : File → List A) (x : Answer)
+pub record Gives {A : Type 0}
+    (pointsOf : File → List A) (x : ReadingAnswer)
     (agents users : List (List ℤ)) (points : List A)
     (agents' users' : List (List ℤ)) (points' : List A)
     (r : Reading) : Type 0 where
@@ -70,4 +70,4 @@ abbrev pub Reads : {A : Type 0}
     → List (List ℤ) → List (List ℤ) → List A
     → Reading → Type 0
 Reads pointsOf t from agents users points agents' users' points' r =
-    Comes pointsOf (reading (slices (length agents) (length users) (length points)) t from) agents users points agents' users' points' r
+    Gives pointsOf (reading (slices (length agents) (length users) (length points)) t from) agents users points agents' users' points' r

@@ -79,7 +79,9 @@ pub fn read_at(
     users: &mut [UserLine],
     points: &mut [Point],
 ) -> Reading
-    ensures { λ r. ⌜ Reads asPoints (now (text .entry)) from (now (agents .entry)) (now (users .entry)) (now (points .entry)) (now (agents .exit)) (now (users .exit)) (now (points .exit)) r ⌝ }
+    ensures { λ r. ⌜ Reads asPoints (now (text .entry)) from
+        (now (agents .entry)) (now (users .entry)) (now (points .entry))
+        (now (agents .exit)) (now (users .exit)) (now (points .exit)) r ⌝ }
 {
     let b = judged(text, from, agents, users, points.len());
     let n = points_at(text, b.at, b.room, points);

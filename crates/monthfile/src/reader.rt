@@ -20,7 +20,10 @@ pub fn read<'s, 'a>(
     users: &mut [UserLine],
     points: &mut [Point],
 ) -> Reading
-    ensures { λ o. ⌜ Reads asPoints (now (now (r .entry) .text)) (now (r .entry) .at) (now (agents .entry)) (now (users .entry)) (now (points .entry)) (now (agents .exit)) (now (users .exit)) (now (points .exit)) o × ((now (r .exit) .text ≡ now (r .entry) .text) × (now (r .exit) .at ≡ nextOf o (now (r .entry) .at))) ⌝ }
+    ensures { λ o. ⌜ Reads asPoints (now (now (r .entry) .text)) (now (r .entry) .at)
+        (now (agents .entry)) (now (users .entry)) (now (points .entry))
+        (now (agents .exit)) (now (users .exit)) (now (points .exit)) o
+        × ((now (r .exit) .text ≡ now (r .entry) .text) × (now (r .exit) .at ≡ nextOf o (now (r .entry) .at))) ⌝ }
 {
     let from = r.at;
     let o = read_at(r.text, from, agents, users, points);

@@ -4,7 +4,7 @@ ghost use mathlib.Core.Path.{_≡_};
 ghost use Prim.Native.Nat.{_≤_};
 ghost use lib.ListN.{length};
 ghost use Rattle.monthfile.specs.Reads.{Reads, asLines, nextOf};
-ghost use Rattle.monthfile.specs.Parts.{MonthAt, Prepared, Judged, answerOf};
+ghost use Rattle.monthfile.specs.Parts.{MonthAt, Prepared, Starts, answerOf};
 use crate::line::line_here;
 use crate::names::AGENTS;
 use crate::names::MONTH;
@@ -78,7 +78,8 @@ fn up_to_points(
     room: usize,
 ) -> Started
     requires { ⌜ from ≤ length (now text) ⌝ }
-    ensures { λ r. ⌜ (r .verdict ≡ Scanned.Whole next) × Prepared (now (text .entry)) from (now (agents .entry)) (now (users .entry)) room (now (agents .exit)) (now (users .exit)) r (Scanned.Whole next) ⌝ }
+    ensures { λ r. ⌜ (r .verdict ≡ Scanned.Whole next)
+        × Prepared (now (text .entry)) from (now (agents .entry)) (now (users .entry)) room (now (agents .exit)) (now (users .exit)) r (Scanned.Whole next) ⌝ }
 {
     let m = month_at(text, past_names(text, from, &MONTH));
     let a = agents_at(text, past_names(text, m.next, &AGENTS), agents);
@@ -108,7 +109,7 @@ fn nothing(verdict: Scanned) -> Started
     }
 }
 
-// Judged, and where it is accepted read up to its points.
+// Starts, and where it is accepted read up to its points.
 pub fn judged(
     text: &[u8],
     from: usize,
@@ -116,7 +117,7 @@ pub fn judged(
     users: &mut [UserLine],
     points: usize,
 ) -> Started
-    ensures { λ r. ⌜ Judged (now (text .entry)) from (now (agents .entry)) (now (users .entry)) points (now (agents .exit)) (now (users .exit)) r ⌝ }
+    ensures { λ r. ⌜ Starts (now (text .entry)) from (now (agents .entry)) (now (users .entry)) points (now (agents .exit)) (now (users .exit)) r ⌝ }
 {
     let verdict = crate::scanner::scan(text, from, [agents.len(), users.len(), points]);
     match verdict {
@@ -165,7 +166,9 @@ pub fn read_lines(
     users: &mut [UserLine],
     points: &mut [PointLine],
 ) -> Reading
-    ensures { λ r. ⌜ Reads asLines (now (text .entry)) from (now (agents .entry)) (now (users .entry)) (now (points .entry)) (now (agents .exit)) (now (users .exit)) (now (points .exit)) r ⌝ }
+    ensures { λ r. ⌜ Reads asLines (now (text .entry)) from
+        (now (agents .entry)) (now (users .entry)) (now (points .entry))
+        (now (agents .exit)) (now (users .exit)) (now (points .exit)) r ⌝ }
 {
     let b = judged(text, from, agents, users, points.len());
     let at = b.at;

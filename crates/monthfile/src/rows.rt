@@ -2,6 +2,7 @@
 ghost use mathlib.Core.Path.{_≡_};
 ghost use Prim.Native.Nat.{_≤_};
 ghost use lib.ListN.{length};
+ghost use Rattle.format.specs.Blocks as Table;
 ghost use Rattle.monthfile.specs.At.{Filled, asRead};
 use crate::line::line_here;
 use crate::values::line_at;
@@ -17,7 +18,8 @@ pub struct Lines {
 
 pub fn agents_at(text: &[u8], at: usize, agents: &mut [AgentLine]) -> Lines
     requires { ⌜ at ≤ length (now text) ⌝ }
-    ensures { λ r. ⌜ Filled asRead (now (text .entry)) at (length (now (agents .entry))) 7 (now (agents .entry)) (now (agents .exit)) (r .count) (r .next) ⌝ }
+    ensures { λ r. ⌜ Filled asRead (now (text .entry)) at (length (now (agents .entry))) (length Table.agents)
+        (now (agents .entry)) (now (agents .exit)) (r .count) (r .next) ⌝ }
 {
     let mut i = at;
     let mut n = 0;
@@ -36,7 +38,8 @@ pub fn agents_at(text: &[u8], at: usize, agents: &mut [AgentLine]) -> Lines
 
 pub fn users_at(text: &[u8], at: usize, users: &mut [UserLine]) -> Lines
     requires { ⌜ at ≤ length (now text) ⌝ }
-    ensures { λ r. ⌜ Filled asRead (now (text .entry)) at (length (now (users .entry))) 3 (now (users .entry)) (now (users .exit)) (r .count) (r .next) ⌝ }
+    ensures { λ r. ⌜ Filled asRead (now (text .entry)) at (length (now (users .entry))) (length Table.users)
+        (now (users .entry)) (now (users .exit)) (r .count) (r .next) ⌝ }
 {
     let mut i = at;
     let mut n = 0;
@@ -55,7 +58,8 @@ pub fn users_at(text: &[u8], at: usize, users: &mut [UserLine]) -> Lines
 
 pub fn points_at(text: &[u8], at: usize, points: &mut [PointLine]) -> Lines
     requires { ⌜ at ≤ length (now text) ⌝ }
-    ensures { λ r. ⌜ Filled asRead (now (text .entry)) at (length (now (points .entry))) 9 (now (points .entry)) (now (points .exit)) (r .count) (r .next) ⌝ }
+    ensures { λ r. ⌜ Filled asRead (now (text .entry)) at (length (now (points .entry))) (length Table.points)
+        (now (points .entry)) (now (points .exit)) (r .count) (r .next) ⌝ }
 {
     let mut i = at;
     let mut n = 0;

@@ -65,7 +65,7 @@ fn block(text: &[u8], i: usize, expected: &[u8], commas: u16, room: usize) -> Sc
 }
 
 // A block where the ones before it ended, if they did.
-fn then(text: &[u8], passed: Scanned, expected: &[u8], commas: u16, room: usize) -> Scanned
+fn next_block(text: &[u8], passed: Scanned, expected: &[u8], commas: u16, room: usize) -> Scanned
     requires { ⌜ Within (now text) 0 passed ⌝ }
     ensures { λ r. ⌜ Continues (now (text .entry)) passed (atBlock (now (expected .entry)) (upTo room) commas) at r ⌝ }
 {
@@ -77,7 +77,7 @@ fn then(text: &[u8], passed: Scanned, expected: &[u8], commas: u16, room: usize)
 }
 
 // After the last block a file ends with the text or before an `m`.
-fn end(text: &[u8], passed: Scanned) -> Scanned
+fn file_end(text: &[u8], passed: Scanned) -> Scanned
     requires { ⌜ Within (now text) 0 passed ⌝ }
     ensures { λ r. ⌜ (r ≡ andThen passed (λ n. verdict (now (text .entry)) (at []) n)) × Within (now (text .entry)) 0 r ⌝ }
 {
@@ -102,10 +102,10 @@ fn file(text: &[u8], i: usize, slices: Slices) -> Scanned
     ensures { λ r. ⌜ (r ≡ verdict (now (text .entry)) (start slices) i) × Within (now (text .entry)) 0 r ⌝ }
 {
     let m = month(text, i, &MONTH);
-    let a = then(text, m, &AGENTS, 6, slices[0]);
-    let u = then(text, a, &USERS, 2, slices[1]);
-    let p = then(text, u, &POINTS, 8, slices[2]);
-    end(text, p)
+    let a = next_block(text, m, &AGENTS, 6, slices[0]);
+    let u = next_block(text, a, &USERS, 2, slices[1]);
+    let p = next_block(text, u, &POINTS, 8, slices[2]);
+    file_end(text, p)
 }
 
 fn smaller(a: usize, b: usize) -> usize

@@ -4,7 +4,7 @@ ghost use Prim.Native.Nat.{_≤_};
 ghost use lib.ListN.{length, drop};
 ghost use Rattle.format.specs.Bytes.{isDigit};
 ghost use Rattle.format.specs.Values.{pastEnd, past};
-ghost use Rattle.monthfile.specs.At.{DigitsAt, ValueAt, LineAt, On, Past};
+ghost use Rattle.monthfile.specs.At.{DigitsAt, ValueAt, LineAt, On, LeftAt};
 
 // A number read, and the place after it.
 pub struct Digits {
@@ -82,18 +82,18 @@ fn on(size: usize, at: usize, by: usize) -> usize
     if size - at < by { size } else { at + by }
 }
 
-// Past the end of a line.
+// LeftAt the end of a line.
 fn past_end(text: &[u8], at: usize) -> usize
     requires { ⌜ at ≤ length (now text) ⌝ }
-    ensures { λ r. ⌜ Past (now (text .entry)) (pastEnd (drop at (now (text .entry)))) r ⌝ }
+    ensures { λ r. ⌜ LeftAt (now (text .entry)) (pastEnd (drop at (now (text .entry)))) r ⌝ }
 {
     on(text.len(), at, 1)
 }
 
-// Past what stands after a value that so many follow on its line: a comma, or the line's end.
+// LeftAt what stands after a value that so many follow on its line: a comma, or the line's end.
 fn past_value(text: &[u8], at: usize, left: usize) -> usize
     requires { ⌜ at ≤ length (now text) ⌝ }
-    ensures { λ r. ⌜ Past (now (text .entry)) (past left (drop at (now (text .entry)))) r ⌝ }
+    ensures { λ r. ⌜ LeftAt (now (text .entry)) (past left (drop at (now (text .entry)))) r ⌝ }
 {
     if left == 0 {
         past_end(text, at)
@@ -102,10 +102,10 @@ fn past_value(text: &[u8], at: usize, left: usize) -> usize
     }
 }
 
-// Past a line of names.
+// LeftAt a line of names.
 pub fn past_names(text: &[u8], at: usize, names: &[u8]) -> usize
     requires { ⌜ at ≤ length (now text) ⌝ }
-    ensures { λ r. ⌜ Past (now (text .entry)) (pastEnd (drop (length (now (names .entry))) (drop at (now (text .entry))))) r ⌝ }
+    ensures { λ r. ⌜ LeftAt (now (text .entry)) (pastEnd (drop (length (now (names .entry))) (drop at (now (text .entry))))) r ⌝ }
 {
     past_end(text, on(text.len(), at, names.len()))
 }

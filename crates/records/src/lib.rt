@@ -1,40 +1,58 @@
-// The points of a month, lent as a slice of records (paper 01, "Where to use each form"): only point_at indexes it.
+// A point as its record and as its line, and the points of a month taken out of a lent slice of records (paper 01, "Where to use each
+// form"): only `taken` indexes such a slice.
 ghost use mathlib.Core.Path.{_≡_};
-ghost use mathlib.Core.List.{[], map};
-ghost use Prim.Native.Nat.{_<_, min};
-ghost use lib.ListN.{length, take, getD};
-ghost use Rattle.rules.specs.Lines.{userOf, pointOf};
-ghost use Rattle.charges.specs.Scan.{scanned};
-use charges::scan::Sums;
+ghost use Prim.Native.Nat.{min};
+ghost use Rattle.rules.specs.Lines.{pointOf};
+ghost use Rattle.records.specs.Taking.{Takes};
 use rules::Point;
-use rules::UserLine;
+use rules::PointLine;
+use rules::columns;
 
-// One point, taken out for the charge functions.
-pub fn point_at(points: &[Point], i: usize) -> Point
-    requires { ⌜ i < length (now points) ⌝ }
-    ensures { λ r. ⌜ r ≡ getD (now (points .entry)) i (pointOf []) ⌝ }
+// The record of a line.
+pub fn point_of(line: PointLine) -> Point
+    ensures { λ r. ⌜ r ≡ pointOf line ⌝ }
 {
-    points[i]
+    Point {
+        user: line[columns::POINT_USER],
+        tp: line[columns::TP],
+        tf: line[columns::TF],
+        dp: line[columns::DP],
+        df: line[columns::DF],
+        mp: line[columns::MP],
+        mf: line[columns::MF],
+        vp: line[columns::VP],
+        vf: line[columns::VF],
+    }
 }
 
-// How many points are scanned: a month of more is refused by its count.
-pub fn scanned_count(points: usize) -> usize
+// The line of a record.
+pub fn line_of(p: Point) -> PointLine
+    ensures { λ r. ⌜ pointOf r ≡ p ⌝ }
+{
+    [p.user, p.tp, p.tf, p.dp, p.df, p.mp, p.mf, p.vp, p.vf]
+}
+
+// How many points are looked at: a month of more is refused by its count.
+pub fn taken_count(points: usize) -> usize
     ensures { λ r. ⌜ r ≡ min 1024 points ⌝ }
 {
     if points < 1024 { points } else { 1024 }
 }
 
-// The scan of the first 1,024 points: the first refusal, or the sums of every user. It writes nothing that was lent.
-pub fn scan(points: &[Point], users: &[UserLine]) -> Sums
-    ensures { λ r. ⌜ r ≡ scanned (map userOf (now (users .entry))) (take 1024 (now (points .entry))) ⌝ }
+fn no_lines() -> [PointLine; 1024] {
+    [[0i64; 9]; 1024]
+}
+
+// The first 1,024 points as lines.
+pub fn taken(points: &[Point]) -> [PointLine; 1024]
+    ensures { λ r. ⌜ Takes (now (points .entry)) r ⌝ }
 {
-    let n = scanned_count(points.len());
-    let mut s = charges::scan::no_points();
+    let n = taken_count(points.len());
+    let mut lines = no_lines();
     let mut i: usize = 0;
     while i < n {
-        let p = point_at(points, i);
+        lines[i] = line_of(points[i]);
         i += 1;
-        s = charges::scan::step(s, users, i as u64, p);
     }
-    s
+    lines
 }

@@ -1,15 +1,15 @@
 -- A statement's verdict is closing's once counts and slices have passed, with room for cells and work; and an accepted month may write.
-use Prim.Native.Nat.{ℕ, _+_, _*_, _≤_}
+use Prim.Native.Nat.{ℕ, zero, suc, _+_, _*_, _≤_}
 use native.Mathlib.Omega.{arith}
-use native.Mathlib.Nat.{mul-le-mul}
+use native.Mathlib.Nat.{mul-le-mul, not-suc-le-zero, le-of-suc-le-suc}
 use mathlib.Core.Path.{_≡_, refl, sym, ap, _∙_}
 use mathlib.Core.Bool.{false, _&&_}
-use mathlib.Core.List.{List, _++_, map}
+use mathlib.Core.List.{List, [], _∷_, _++_, map}
 use borrow.Author.Tests.{le-ltb, ltb-false}
 use lib.Dec.{ltb}
 use lib.IntN.{ℤ, pos}
 use lib.ListN.{length, take, drop, length-map}
-use lib.Seq.{length-take-le}
+use lib.Seq.{length-take-le, take-all}
 use lib.Signed.{ltZ}
 use Rattle.ints.specs.Range.{eqZ}
 use Rattle.ints.specs.Sums.{sumℤ}
@@ -17,25 +17,25 @@ use Rattle.rules.specs.declared.Answer.the-variants.{Accepted, Refused}
 use Rattle.rules.specs.declared.Ledger.{Ledger}
 use Rattle.rules.specs.declared.Point.{Point}
 use Rattle.rules.specs.Verdict.{Verdict, accepted, refused, when, _then_, eachLine}
-use Rattle.rules.specs.Lines.{Agent, Lines, agentOf, userOf, badAmount, monthLines}
+use Rattle.rules.specs.Lines.{Agent, User, Lines, agentOf, userOf, pointOf, badAmount, badPoint, monthLines}
 use Rattle.rules.specs.Charges.{EUSTs, pvTotal, VDs}
 use Rattle.rules.specs.Credits.{SMSE}
 use Rattle.rules.specs.Refusals.{State, Lengths, badCounts, shortSlices, badMonth, creditTest, agentTest, userTest, pointTest, lineTests, sumTests, refusal}
 use Rattle.rules.specs.Calls.{stateOf, ifAccepted}
 use Rattle.rules.proofs.Tests.{then-accepted, when-accepted, when-then}
 use Rattle.rules.proofs.Passed.{Passed, passed}
+use Rattle.records.specs.Taking.{FirstOf}
 use Rattle.limits.proofs.Laws.{few-counts, then-assoc}
 use Rattle.charges.specs.declared.scan.Sums.{Sums}
 use Rattle.charges.specs.declared.month.Bills.{Bills}
+use Rattle.charges.specs.Scan.{ScanFinds}
 use Rattle.charges.specs.Month.{Billed}
 use Rattle.charges.proofs.Ready.{ready}
 use Rattle.credits.proofs.Tested.{payable-passed}
 use Rattle.closing.specs.Judged.{throughLines}
 use Rattle.closing.proofs.Judging.{Judgeable, passed-7, sums-last}
-use Rattle.statement.specs.declared.points.Charged.{Charged}
 use Rattle.statement.specs.Statement.{pointRows, userRows, payeeRows, Rooms, shortRooms, statementRefusal, refusalOf, States}
-use Rattle.statement.specs.Writes.{Found, Writable, Written}
-use Rattle.statement.proofs.Charging.{all-charged}
+use Rattle.statement.specs.Writes.{InRange, Writable, Written}
 
 -- ---- the verdict
 -- 1 and 2, as the code comes to them
@@ -71,6 +71,9 @@ module _ (s : State) (n : Rooms) (l : Lines) where
   module _ (e : first ≡ accepted) where
     counts : badCounts s (length (l .users)) (length (l .agents)) (length (l .points)) ≡ false
     counts = when-then _ 1 0 _ e .0
+
+    pub few-agents : s .agents ≤ 256
+    few-agents = few-counts s _ _ _ counts .1
 
     rooms : shortRooms s n (length (l .points)) ≡ accepted
     rooms = when-then (badCounts s (length (l .users)) (length (l .agents)) (length (l .points))) 1 0 _ e .1
@@ -129,11 +132,18 @@ module _ (g : Ledger) (held : List ℤ) (l : Lines) (points users payees : List 
   }
 
 -- ---- an accepted month
-module _ (g : Ledger) (held : List ℤ) (month ons : ℤ) (agents users : List (List ℤ)) (count : ℕ) (s : Sums) (c : Charged) (points : List Point) where
+-- its points are in their ranges
+in-ranges : (users : List User) (k : ℕ) (points : List (List ℤ)) → eachLine (pointTest users) k (map pointOf points) ≡ accepted → InRange points
+unfolding eachLine
+in-ranges users k [] t i h = absurd (not-suc-le-zero h)
+in-ranges users k (l ∷ ls) t zero h = when-then (badPoint (pointOf l)) 5 k _ (then-accepted (pointTest users k (pointOf l)) _ t .0) .0
+in-ranges users k (l ∷ ls) t (suc i) h = in-ranges users (suc k) ls (then-accepted (pointTest users k (pointOf l)) _ t .1) i (le-of-suc-le-suc h)
+
+module _ (g : Ledger) (held : List ℤ) (month ons : ℤ) (agents users : List (List ℤ)) (count : ℕ) (s : Sums) (points : List Point) where
   abbrev lines : Lines
   lines = monthLines month ons agents users points
 
-  module _ (f : Found users count s c points) (e : refusal (stateOf g held) (roomy (length held)) lines ≡ accepted) where
+  module _ (f : ScanFinds users count s points) (e : refusal (stateOf g held) (roomy (length held)) lines ≡ accepted) where
     p : Passed (stateOf g held) (roomy (length held)) lines
     p = passed (stateOf g held) (roomy (length held)) lines e
 
@@ -147,7 +157,7 @@ module _ (g : Ledger) (held : List ℤ) (month ons : ℤ) (agents users : List (
     through = then-accepted _ _ (sums-last (stateOf g held) (roomy (length held)) month ons agents users points _ refl ∙ e)
 
     tested : Judgeable g month ons held agents users s points
-    tested = passed-7 g held 18446744073709551615 18446744073709551615 month ons agents users count s points (f .scan) (through .0)
+    tested = passed-7 g held 18446744073709551615 18446744073709551615 month ons agents users count s points f (through .0)
 
     nine : (ltZ (pos 0) (pvTotal lines) && eqZ (sumℤ (EUSTs lines)) (pos 0)) ≡ false
     unfolding sumTests
@@ -165,23 +175,26 @@ module _ (g : Ledger) (held : List ℤ) (month ons : ℤ) (agents users : List (
     credit-count : length (take (g .users) held) ≡ g .users
     credit-count = length-take-le (g .users) held (p .held)
 
+    -- no more than 1,024, so that their lines are all there
+    pub all-there : (ls : List (List ℤ)) → FirstOf count points ls → points ≡ map pointOf ls
+    all-there ls h = sym (h .are ∙ take-all 1024 points (p .few-points))
+
     pub writable :
-        (bills : Bills) (point-rows user-rows payee-rows : List (List ℤ))
+        (ls : List (List ℤ)) (bills : Bills) (point-rows user-rows payee-rows : List (List ℤ))
+        → FirstOf count points ls
         → Billed users (take (g .users) held) lines bills
         → length points ≤ length point-rows
         → g .users ≤ length user-rows
         → g .agents + 1 ≤ length payee-rows
-        → Writable month ons agents users (take (length users) held) s c bills (take count point-rows) (take (length users) user-rows) (take (length agents + 1) payee-rows) points
-    writable bills point-rows user-rows payee-rows b hp hu hy =
-        let all = all-charged (map userOf users) points (p .few-points) points-passed in
+        → Writable month ons agents users (take (length users) held) ls s bills (take count point-rows) (take (length users) user-rows) (take (length agents + 1) payee-rows)
+    writable ls bills point-rows user-rows payee-rows h b hp hu hy =
+        let all = all-there ls h in
         let t = tested .passed in
         record {
-          few-points = p .few-points;
-          point-count = rw (f .scan .counted) (length-take-le _ point-rows hp);
+          in-range = in-ranges (map userOf users) 1 ls (rw (sym all) points-passed);
+          point-count = rw (f .counted) (length-take-le _ point-rows hp ∙ ap length all ∙ length-map ls pointOf);
           user-count = length-take-le _ user-rows (omega (arith, user-count));
           payee-count = length-take-le _ payee-rows (omega (arith, agent-count));
-          uses = rw (f .charges) (all .uses);
-          overruns = rw (f .charges) (all .overruns);
-          owed = record { month = rw (t .sums) (ready month ons agents users points (take (length users) held) (t .tests) nine); billed = rw user-count b };
-          payable = rw user-count (payable-passed (stateOf g held) (roomy (length held)) lines credit-count p);
+          owed = rw (sym all) (record { month = rw (t .sums) (ready month ons agents users points (take (length users) held) (t .tests) nine); billed = rw user-count b });
+          payable = rw (sym all, user-count) (payable-passed (stateOf g held) (roomy (length held)) lines credit-count p);
         }

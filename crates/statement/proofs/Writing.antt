@@ -7,25 +7,13 @@ use lib.IntN.{ℤ, pos}
 use lib.ListN.{length, length-append, List·getD-append}
 use Rattle.ints.specs.Sums.{sumℤ}
 use Rattle.share.specs.Running.{runningShare}
-use Rattle.rules.specs.declared.Point.{Point}
-use Rattle.rules.specs.Lists.{eachFrom, sideBySide}
+use Rattle.rules.specs.Lists.{eachFrom}
 use Rattle.rules.specs.Lines.{Agent, Lines}
-use Rattle.rules.specs.Charges.{useCharge, VDs}
+use Rattle.rules.specs.Charges.{VDs}
 use Rattle.rules.specs.Credits.{ownCredits, SMSE, VMANTs, VCs}
 use Rattle.rules.proofs.Sizes.{length-VCs}
 use Rattle.credits.specs.Payable.{balanceOf, agentVCs}
-use Rattle.statement.specs.Statement.{pointRows, agentRowsOf, onsRow, payeeRows}
-use Rattle.statement.specs.Rows.{overrunOf, pairs}
-
--- ---- the points
-both : (f g : Point → ℤ) (ps : List Point) → pairs (map f ps) (map g ps) ≡ map (λ (p : Point). f p ∷ g p ∷ []) ps
-unfolding sideBySide
-both f g [] = refl
-both f g (p ∷ ps) = ap (λ (rows : List (List ℤ)). (f p ∷ g p ∷ []) ∷ rows) (both f g ps)
-
-pub point-rows-are : (l : Lines) {uses overruns : List ℤ} → uses ≡ map useCharge (l .points) → overruns ≡ map (overrunOf (l .users)) (l .points) → pairs uses overruns ≡ pointRows l
-unfolding pointRows
-point-rows-are l e f = rw (e, f) (both useCharge (overrunOf (l .users)) (l .points))
+use Rattle.statement.specs.Statement.{agentRowsOf, onsRow, payeeRows}
 
 -- ---- the payees
 each-same : {A B : Type 0} (k : ℕ) (f g : ℕ → A → B) (xs : List A) → ((i : ℕ) (x : A) → i < length xs → f (k + i) x ≡ g (k + i) x) → eachFrom k f xs ≡ eachFrom k g xs

@@ -5,23 +5,26 @@ mod points;
 mod users;
 
 ghost use mathlib.Core.Path.{_≡_};
-ghost use mathlib.Core.List.{List};
+ghost use mathlib.Core.List.{List, map};
 ghost use lib.IntN.{ℤ, pos};
+ghost use lib.ListN.{length};
 ghost use Rattle.rules.specs.declared.Answer.the-variants.{Refused};
 ghost use Rattle.rules.specs.declared.Point.{Point};
 ghost use Rattle.rules.specs.Verdict.{when, _then_};
-ghost use Rattle.rules.specs.Lines.{monthLines};
+ghost use Rattle.rules.specs.Lines.{pointOf, monthLines};
 ghost use Rattle.rules.specs.Refusals.{badCounts};
 ghost use Rattle.rules.specs.Calls.{stateOf, verdictOf};
 ghost use Rattle.statement.specs.Statement.{shortRooms, States};
-ghost use Rattle.statement.specs.Writes.{Found, Writable, Written};
-use crate::points::Charged;
+ghost use Rattle.records.specs.Taking.{Takes, FirstOf};
+ghost use Rattle.statement.specs.Writes.{Writable, Written};
 use charges::month::Bills;
 use charges::scan::Sums;
 use rules::AgentLine;
 use rules::Answer;
 use rules::Ledger;
+use rules::MonthLine;
 use rules::Point;
+use rules::PointLine;
 use rules::UserLine;
 
 // The answer, with the balance SMSE of an accepted month, 0 of a refused one.
@@ -103,49 +106,42 @@ fn counts_verdict(
 // Writes every row of a month that breaks no limit, and answers its balance. `held` has one entry for each user; every slice of rows
 // is as long as its rows are many.
 fn write(
-    month: i64,
-    ons: i64,
+    line: MonthLine,
     agents: &[AgentLine],
     users: &[UserLine],
     held: &[i64],
+    points: &[PointLine],
     s: Sums,
-    c: Charged,
     bills: Bills,
     point_rows: &mut [[i64; 2]],
     user_rows: &mut [[i64; 9]],
     payee_rows: &mut [[i64; 5]],
 ) -> i64
-    requires { ⌜ ((points : List Point) × Writable month ons (now agents) (now users) (now held) s c bills (now «point_rows») (now «user_rows») (now «payee_rows») points) ⌝ }
-    ensures { λ r. ⌜ ((points : List Point) → Writable month ons (now (agents .entry)) (now (users .entry)) (now (held .entry)) s c bills (now («point_rows» .entry)) (now («user_rows» .entry)) (now («payee_rows» .entry)) points
-        → Written (now (held .entry)) (monthLines month ons (now (agents .entry)) (now (users .entry)) points) r (now («point_rows» .exit)) (now («user_rows» .exit)) (now («payee_rows» .exit))) ⌝ }
+    requires { ⌜ Writable (line .month) (line .ons) (now agents) (now users) (now held) (now points) s bills (now «point_rows») (now «user_rows») (now «payee_rows») ⌝ }
+    ensures { λ r. ⌜ Written (now (held .entry)) (monthLines (line .month) (line .ons) (now (agents .entry)) (now (users .entry)) (map pointOf (now (points .entry)))) r (now («point_rows» .exit)) (now («user_rows» .exit)) (now («payee_rows» .exit)) ⌝ }
 {
-    let n = point_rows.len();
-    let uses = c.uses;
-    let overruns = c.overruns;
-    points::rows(&uses[..n], &overruns[..n], point_rows);
+    points::rows(users, points, point_rows);
     let pv = credits::columns::pv_total(agents);
     users::state_users(users, s, bills, pv, held, user_rows);
-    payees::state_payees(month, ons, bills.total, agents, payee_rows)
+    payees::state_payees(line.month, line.ons, bills.total, agents, payee_rows)
 }
 
-// What is left once the points are scanned: n is their count, s what their scan has found, c what is charged for each.
-fn finish(
+// The month whose first 1,024 points are these lines; n counts all of them.
+fn state_first(
     ledger: Ledger,
     held: &[i64],
-    month: i64,
-    ons: i64,
+    line: MonthLine,
     agents: &[AgentLine],
     users: &[UserLine],
     n: usize,
-    s: Sums,
-    c: Charged,
+    points: &[PointLine],
     point_rows: &mut [[i64; 2]],
     user_rows: &mut [[i64; 9]],
     payee_rows: &mut [[i64; 5]],
 ) -> Stated
-    requires { ⌜ ((points : List Point) × Found (now users) n s c points) ⌝ }
-    ensures { λ r. ⌜ ((points : List Point) → Found (now (users .entry)) n s c points
-        → States ledger (now (held .entry)) (monthLines month ons (now (agents .entry)) (now (users .entry)) points) (now («point_rows» .entry)) (now («user_rows» .entry)) (now («payee_rows» .entry)) r (now («point_rows» .exit)) (now («user_rows» .exit)) (now («payee_rows» .exit))) ⌝ }
+    requires { ⌜ ((all : List Point) × FirstOf n all (now points)) ⌝ }
+    ensures { λ r. ⌜ ((all : List Point) → FirstOf n all (now (points .entry))
+        → States ledger (now (held .entry)) (monthLines (line .month) (line .ons) (now (agents .entry)) (now (users .entry)) all) (now («point_rows» .entry)) (now («user_rows» .entry)) (now («payee_rows» .entry)) r (now («point_rows» .exit)) (now («user_rows» .exit)) (now («payee_rows» .exit))) ⌝ }
 {
     let first = counts_verdict(
         ledger,
@@ -160,11 +156,12 @@ fn finish(
     match first {
         Answer::Refused(number, place) => refused(number, place),
         Answer::Accepted => {
+            let s = charges::scan::scan(points, users);
             let found = closing::judge::judge(
                 ledger,
                 held,
-                month,
-                ons,
+                line.month,
+                line.ons,
                 agents,
                 users,
                 n as u64,
@@ -179,13 +176,12 @@ fn finish(
                     let u = users.len();
                     let m = agents.len() + 1;
                     let smse = write(
-                        month,
-                        ons,
+                        line,
                         agents,
                         users,
                         &held[..u],
+                        points,
                         s,
-                        c,
                         found.bills,
                         &mut point_rows[..n],
                         &mut user_rows[..u],
@@ -201,13 +197,74 @@ fn finish(
     }
 }
 
+// Every amount of a month whose points are lines.
+pub fn state_lines(
+    ledger: Ledger,
+    held: &[i64],
+    line: MonthLine,
+    agents: &[AgentLine],
+    users: &[UserLine],
+    points: &[PointLine],
+    point_rows: &mut [[i64; 2]],
+    user_rows: &mut [[i64; 9]],
+    payee_rows: &mut [[i64; 5]],
+) -> Stated
+    ensures { λ r. ⌜ States ledger (now (held .entry)) (monthLines (line .month) (line .ons) (now (agents .entry)) (now (users .entry)) (map pointOf (now (points .entry)))) (now («point_rows» .entry)) (now («user_rows» .entry)) (now («payee_rows» .entry)) r (now («point_rows» .exit)) (now («user_rows» .exit)) (now («payee_rows» .exit)) ⌝ }
+{
+    let n = points.len();
+    let k = records::taken_count(n);
+    state_first(
+        ledger,
+        held,
+        line,
+        agents,
+        users,
+        n,
+        &points[..k],
+        point_rows,
+        user_rows,
+        payee_rows,
+    )
+}
+
+// The same of n points that were taken out of a slice of records.
+fn state_taken(
+    ledger: Ledger,
+    held: &[i64],
+    line: MonthLine,
+    agents: &[AgentLine],
+    users: &[UserLine],
+    n: usize,
+    lines: [PointLine; 1024],
+    point_rows: &mut [[i64; 2]],
+    user_rows: &mut [[i64; 9]],
+    payee_rows: &mut [[i64; 5]],
+) -> Stated
+    requires { ⌜ ((points : List Point) × ((n ≡ length points) × Takes points lines)) ⌝ }
+    ensures { λ r. ⌜ ((points : List Point) → (n ≡ length points) → Takes points lines
+        → States ledger (now (held .entry)) (monthLines (line .month) (line .ons) (now (agents .entry)) (now (users .entry)) points) (now («point_rows» .entry)) (now («user_rows» .entry)) (now («payee_rows» .entry)) r (now («point_rows» .exit)) (now («user_rows» .exit)) (now («payee_rows» .exit))) ⌝ }
+{
+    let k = records::taken_count(n);
+    state_first(
+        ledger,
+        held,
+        line,
+        agents,
+        users,
+        n,
+        &lines[..k],
+        point_rows,
+        user_rows,
+        payee_rows,
+    )
+}
+
 // Every amount of a month: refusals 1 to 10 with nothing written, or a row for each point, user and payee, and the balance. Entries
 // beyond the rows stay.
 pub fn state(
     ledger: Ledger,
     held: &[i64],
-    month: i64,
-    ons: i64,
+    line: MonthLine,
     agents: &[AgentLine],
     users: &[UserLine],
     points: &[Point],
@@ -215,21 +272,18 @@ pub fn state(
     user_rows: &mut [[i64; 9]],
     payee_rows: &mut [[i64; 5]],
 ) -> Stated
-    ensures { λ r. ⌜ States ledger (now (held .entry)) (monthLines month ons (now (agents .entry)) (now (users .entry)) (now (points .entry))) (now («point_rows» .entry)) (now («user_rows» .entry)) (now («payee_rows» .entry)) r (now («point_rows» .exit)) (now («user_rows» .exit)) (now («payee_rows» .exit)) ⌝ }
+    ensures { λ r. ⌜ States ledger (now (held .entry)) (monthLines (line .month) (line .ons) (now (agents .entry)) (now (users .entry)) (now (points .entry))) (now («point_rows» .entry)) (now («user_rows» .entry)) (now («payee_rows» .entry)) r (now («point_rows» .exit)) (now («user_rows» .exit)) (now («payee_rows» .exit)) ⌝ }
 {
     let n = points.len();
-    let s = records::scan(points, users);
-    let c = points::charge(points, users);
-    finish(
+    let lines = records::taken(points);
+    state_taken(
         ledger,
         held,
-        month,
-        ons,
+        line,
         agents,
         users,
         n,
-        s,
-        c,
+        lines,
         point_rows,
         user_rows,
         payee_rows,

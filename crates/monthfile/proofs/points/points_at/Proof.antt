@@ -22,9 +22,11 @@ use prog.Wp.{Heap, Out, Env, Wp, WpFn, Tables, afterSeq, afterBlock, afterTurn, 
 use ghost.Atoms.{Atoms, sem}
 use contract.Monad.{Fun, fact}
 use contract.Running.{givenOf, tables, tablesOf}
-use types.Kit.{Given, Item, Sq, runs, anyQ, atRet, ‵, raw, _⊛_, ⋆, some, later, _$_, _∵_, !, qed, by, move, keep, drop, use1, use2, split, join, pick, rewrite, fsplit, fjoin, suffices, frame, await, done}
+use types.Kit.{Given, Item, Sq, runs, anyQ, atRet, ‵, raw, _⊛_, ⋆, some, later, _$_, _∵_, !, qed, by, move, keep, drop, use1, use2, split, join, pick}
+use types.Kit.{rewrite, fsplit, fjoin, suffices, frame, await, done}
 use types.Part.{whole, sub, look-in}
-use types.Run.{look, store, store-raw, init, forget, stop, hop, fld, from, load, lit, of-opd, bin, and-then, no-more, assigns, assigns-last, land, first, blocks, stays, leaves-loop, loops, again, Below, exec, returns, enter, alloc1, alloc0, params1, pass1, pass0, free1, free0}
+use types.Run.{look, store, store-raw, init, forget, stop, hop, fld, from, load, lit, of-opd, bin, and-then, no-more, assigns, assigns-last, land}
+use types.Run.{first, blocks, stays, leaves-loop, loops, again, Below, exec, returns, enter, alloc1, alloc0, params1, pass1, pass0, free1, free0}
 use sound.WpLaws.{FmC, fmOf, WpFn-mono}
 use denote.RattleType.{RattleType, owns}
 use denote.Laws.{Is, shows}
@@ -34,7 +36,8 @@ use denote.Builtin.{u8, usize, bool}
 use denote.Ref.{RefT, now}
 use denote.Signature.{plain}
 use denote.Index.{place-is, elem-out, elem-put, opens-slice, closes-slice}
-use denote.Slice.{sliceTy, sliceVal, ShrSlice, MutSlice, heres, Room, slice-vals, shr-slice-tells, shr-slice-copy, mut-slice-tells, at-slice, codedHoleys}
+use denote.Slice.{sliceTy, sliceVal, ShrSlice, MutSlice, heres, Room, slice-vals, shr-slice-tells, shr-slice-copy, mut-slice-tells, at-slice}
+use denote.Slice.{codedHoleys}
 use denote.Lend.{Held}
 use denote.Shadow.{pureI}
 use denote.Steps.{owned, peeks, heard, nothing, only}
@@ -45,7 +48,8 @@ use denote.Triple.Clauses.{ensured, lasts}
 use denote.Triple.Entry.{Vals, onEntry}
 use denote.Triple.Spec.{Meets, tripleOf}
 use denote.Triple.Table.{entered, cited}
-use denote.Triple.Walked.{says, needs, Stays, stay-none-slice, stay-none, stay-slice, walkOf, goes-none-slice, goes-none, goes-slice, Walks, ends-at, walked, walk-meets}
+use denote.Triple.Walked.{says, needs, Stays, stay-none-slice, stay-none, stay-slice, walkOf, goes-none-slice, goes-none, goes-slice, Walks, ends-at}
+use denote.Triple.Walked.{walked, walk-meets}
 use denote.Exit.{yes}
 use Rattle.rules.specs.declared.Point.{Point}
 use Rattle.rules.proofs.Point as T

@@ -18,9 +18,11 @@ use prog.Wp.{Heap, Calls, Loops, WpFn, Tables}
 use ghost.Atoms.{Atoms, sem}
 use contract.Monad.{Fun, fact}
 use contract.Running.{givenOf, tables, tablesOf}
-use types.Kit.{Given, Item, ‵, raw, _⊛_, ⋆, some, later, _$_, _∵_, !, qed, by, move, keep, drop, use0, use1, use2, split, join, pick, rewrite, fsplit, fjoin, feqL, suffices, frame, await, done}
+use types.Kit.{Given, Item, ‵, raw, _⊛_, ⋆, some, later, _$_, _∵_, !, qed, by, move, keep, drop, use0, use1, use2, split, join, pick, rewrite, fsplit}
+use types.Kit.{fjoin, feqL, suffices, frame, await, done}
 use types.Part.{whole, sub, look-in, agg}
-use types.Run.{look, init, forget, stop, hop, fld, from, load, addr, of-opd, and-then, no-more, assigns, land, returns, enter, alloc1, alloc0, params1, pass1, pass0, free1, free0}
+use types.Run.{look, init, forget, stop, hop, fld, from, load, addr, of-opd, and-then, no-more, assigns, land, returns, enter, alloc1, alloc0}
+use types.Run.{params1, pass1, pass0, free1, free0}
 use sound.WpLaws.{FmC, fmOf, WpFn-mono}
 use denote.RattleType.{RattleType, owns}
 use denote.Laws.{Is, shows}
@@ -39,13 +41,14 @@ use denote.Triple.Clauses.{ensured, lasts}
 use denote.Triple.Entry.{Vals, onEntry}
 use denote.Triple.Spec.{Meets, tripleOf}
 use denote.Triple.Table.{entered, cited}
-use denote.Triple.Walked.{says, Stays, stay-none-slice, stay-none, gave-slice, walkOf, goes-none-slice, goes-none, goes-gave-slice, Walks, ends-at, walked, walk-meets}
+use denote.Triple.Walked.{says, Stays, stay-none-slice, stay-none, gave-slice, walkOf, goes-none-slice, goes-none, goes-gave-slice, Walks, ends-at}
+use denote.Triple.Walked.{walked, walk-meets}
 use denote.Exit.{yes}
 use Rattle.rules.specs.declared.Point.{Point}
 use Rattle.rules.proofs.Point as T
 use Rattle.rules.specs.Lines.{pointOf}
 use Rattle.monthfile.specs.Reads.{Reads, asPoints}
-use Rattle.monthfile.specs.Parts.{Judged, PointsFilled, answerOf}
+use Rattle.monthfile.specs.Parts.{Starts, PointsFilled, answerOf}
 use Rattle.monthfile.specs.declared.reading.Started.{Started}
 use Rattle.monthfile.specs.declared.reading.Reading.{Reading}
 use Rattle.monthfile.proofs.WholeFile.{room-for, whole-read}
@@ -219,8 +222,8 @@ module _ {M : Type 1} (𝓤 : URA M) (H : Heap 𝓤) (A : Atoms 𝓤) (W : Given
         calls-at ! fm (JudgedC 𝓤 H A mem run) known-judged to-judged (and-then ! (load ! (from ! (stop !)) (look ! 30 refl)) (and-then ! (load ! (from ! (stop !)) (look ! 28 refl)) (and-then ! (load ! (from ! (stop !)) (look ! 14 refl)) (and-then ! (load ! (from ! (stop !)) (look ! 10 refl)) (and-then ! (load ! (from ! (stop !)) (look ! 8 refl)) (no-more !)))))) (λ u.
         use1 W (later (some (λ (b : Started). (TokB ⊛ ‵ (S.the-row .own b (u ∷ []))) ⊛ raw (ensured 𝓤 H A judged.ended (judged.clauses 𝓤 H A mem run) (κ, (κa, (κu, tt))) (tx, (at, (ra, (ru, (p, tt))))) tt b)))) (id⊢ 𝓤 _) $ await ! tt $ pick ! (λ b.
         split ! $ move ! (1 ∷ []) $ use1 W (some (λ (ws : Unit {0} × (Unit {0} × (List (List ℤ) × (List (List ℤ) × (Unit {0} × Unit {0}))))). ‵ (lasts judged.ended (κ, (κa, (κu, tt))) (tx, (at, (ra, (ru, (p, tt))))) ws)
-        ⊛ raw (fact 𝓤 (Judged t at (ra .now) (ru .now) p (ws .1 .1 .0) (ws .1 .1 .1 .0) b)))) (id⊢ 𝓤 _) $ pick ! (λ ws.
-        split ! $ move ! (1 ∷ []) $ heard ! (Judged t at (ra .now) (ru .now) p (ws .1 .1 .0) (ws .1 .1 .1 .0) b) (λ e.
+        ⊛ raw (fact 𝓤 (Starts t at (ra .now) (ru .now) p (ws .1 .1 .0) (ws .1 .1 .1 .0) b)))) (id⊢ 𝓤 _) $ pick ! (λ ws.
+        split ! $ move ! (1 ∷ []) $ heard ! (Starts t at (ra .now) (ru .now) p (ws .1 .1 .0) (ws .1 .1 .1 .0) b) (λ e.
         fsplit ! $ drop ! $ fsplit ! $ drop ! $ fsplit ! $ fsplit ! $ move ! (1 ∷ []) $ feqL ! (λ la. move ! (1 ∷ []) $ fsplit ! $ fsplit ! $ move ! (1 ∷ []) $ feqL ! (λ lu. move ! (1 ∷ []) $ drop ! $
         -- [the users' last list; the agents'; the tokens and what b owns; the text; κp; OwnP; _14 at 6; …]
         move ! (2 ∷ []) $ split ! $ move ! (1 ∷ []) $ peeks ! S.the-row (Is S.the-row) (shows 𝓤 H A S.the-row) b (u ∷ []) (λ is.

@@ -15,7 +15,8 @@ up-to-points-requires c κs =
 returns : tie.Need-returns
 returns c =
     let x = c .before .before .up-to-points .ensures in
-    judges _ _ _ _ _ _ _ _ _ _ (x .0) (c .before .before .before .before .before .before .verdict .given .1) (c .before .before .before .before .before .before .before .before .scan .ensures .0) (x .1)
+    let whole = c .before .before .before .before .before .before in
+    judges _ _ _ _ _ _ _ _ _ _ (x .0) (whole .verdict .given .1) (whole .before .before .scan .ensures .0) (x .1)
 
 returns-2 : tie.Need-returns-2
 returns-2 c =

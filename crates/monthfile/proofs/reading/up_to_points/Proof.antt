@@ -1,11 +1,13 @@
 -- Assumes nothing.
 use mathlib.Core.Path.{refl}
+use Rattle.format.specs.Grammar.{more}
 use Rattle.monthfile.proofs.FileSteps.{ready}
 use borrow.Author.Needs.{needs}
 use Rattle.monthfile.proofs.reading.up_to_points.Statement.{statement}
 use Rattle.monthfile.proofs.reading.up_to_points.Tie as tie
 
 returns : tie.Need-returns
+unfolding more
 returns c =
     let users = c .before .before .before .before in
     let agents = users .before .before .before .before .before in

@@ -12,8 +12,8 @@ use borrow.Author.Needs.{needs}
 use Rattle.monthfile.proofs.scanner.file.Statement.{statement}
 use Rattle.monthfile.proofs.scanner.file.Tie as tie
 
-then-requires : tie.Need-then-requires
-then-requires c κs = farther _ 0 (c .before .before .before .before .args .i) (c .before .month .result) (omega arith) (c .before .month .ensures .within)
+next-block-requires : tie.Need-next-block-requires
+next-block-requires c κs = farther _ 0 (c .before .before .before .before .args .i) (c .before .month .result) (omega arith) (c .before .month .ensures .within)
 
 returns : tie.Need-returns
 unfolding more
@@ -23,9 +23,9 @@ returns c =
     let r : Slices = begun .args .t3 in
     let l : length r ≡ 3 = search needs in
     let e =
-    blocks-passed _ (begun .args .i) _ _ _ (passed .month .ensures) (c .before .before .before .before .before .then .ensures)
-    (c .before .before .before .then2 .ensures) (c .before .then3 .ensures) in
-    (c .end .ensures .0 ∙ sym (ap (λ (x : Slices). verdict (begun .args .text .now) (start x) (begun .args .i)) (three r l) ∙ e), c .end .ensures .1)
+    blocks-passed _ (begun .args .i) _ _ _ (passed .month .ensures) (c .before .before .before .before .before .next-block .ensures)
+    (c .before .before .before .next-block2 .ensures) (c .before .next-block3 .ensures) in
+    (c .file-end .ensures .0 ∙ sym (ap (λ (x : Slices). verdict (begun .args .text .now) (start x) (begun .args .i)) (three r l) ∙ e), c .file-end .ensures .1)
 
 pub file-spec : {M : Type 1} → statement M
 file-spec =
@@ -35,7 +35,7 @@ file-spec =
     (λ c κs. search needs)
     (λ c. search needs)
     (λ c. search needs)
-    then-requires
+    next-block-requires
     (λ c. search needs)
     (λ c. search needs)
     (λ c κs. search needs)

@@ -23,24 +23,28 @@ loop-holds c = (omega arith, (omega arith, λ f. refl))
 returns : tie.Need-returns Inv-loop μ-loop
 returns c =
     let turn = c .before .before in
+    let ns = turn .before .before .before .args .expected .now in
     after _ _ _ _ _ _ (omega arith) (turn .loop .inv .1 .1)
-    (faulty _ _ _ _ (omega arith) (λ f. names-cut _ (turn .before .before .before .args .expected .now) _ (turn .loop .k) (omega arith) f (c .if1 .taken)))
+    (faulty _ _ _ _ (omega arith) (λ f. names-cut _ ns _ (turn .loop .k) (omega arith) f (c .if1 .taken)))
 
 returns-2 : tie.Need-returns-2 Inv-loop μ-loop
 returns-2 c =
     let turn = c .before .before .before .before .before in
+    let ns = turn .before .before .before .args .expected .now in
     after _ _ _ _ _ _ (omega arith) (turn .loop .inv .1 .1)
-    (faulty _ _ _ _ (omega arith) (λ f. names-stuck _ (turn .before .before .before .args .expected .now) _ (turn .loop .k) (omega arith) f (omega arith) (c .if2 .taken)))
+    (faulty _ _ _ _ (omega arith) (λ f. names-stuck _ ns _ (turn .loop .k) (omega arith) f (omega arith) (c .if2 .taken)))
 
 loop-again : tie.Need-loop-again Inv-loop μ-loop
 loop-again c =
     let turn = c .before .before .before .before .before in
-    (omega arith, (omega arith, λ f. turn .loop .inv .1 .1 f ∙ names-on _ (turn .before .before .before .args .expected .now) _ (turn .loop .k) (omega arith) f (omega arith) (c .if2 .left)))
+    let ns = turn .before .before .before .args .expected .now in
+    (omega arith, (omega arith, λ f. turn .loop .inv .1 .1 f ∙ names-on _ ns _ (turn .loop .k) (omega arith) f (omega arith) (c .if2 .left)))
 
 returns-3 : tie.Need-returns-3 Inv-loop μ-loop
 returns-3 c =
     let turn = c .before .before in
-    after _ _ _ _ _ _ (omega arith) (λ f. turn .loop .inv .1 .1 f ∙ names-over _ (turn .before .before .before .args .expected .now) _ (turn .loop .k) (omega arith) f) (c .line-end .ensures)
+    let ns = turn .before .before .before .args .expected .now in
+    after _ _ _ _ _ _ (omega arith) (λ f. turn .loop .inv .1 .1 f ∙ names-over _ ns _ (turn .loop .k) (omega arith) f) (c .line-end .ensures)
 
 pub names-spec : {M : Type 1} → statement M
 names-spec =

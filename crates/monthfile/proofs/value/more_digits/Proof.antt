@@ -47,7 +47,8 @@ returns c k =
 returns-2 : tie.Need-returns-2 Inv-loop μ-loop
 returns-2 c k =
     let at = c .before in
-    record { goes = behind-all _ _ _ (at .loop .inv .1 .1) (λ h. omega (arith, c .before .before .last-digit .ensures .ends (omega arith))) k; within = (omega arith, omega arith) }
+    let ends = c .before .before .last-digit .ensures .ends in
+    record { goes = behind-all _ _ _ (at .loop .inv .1 .1) (λ h. omega (arith, ends (omega arith))) k; within = (omega arith, omega arith) }
 
 pub more-digits-spec : {M : Type 1} → statement M
 more-digits-spec =

@@ -18,7 +18,9 @@ returns-3 : tie.Need-returns-3
 returns-3 c k = after _ _ _ _ _ _ (omega arith) (λ f. minus-on _ k f _ (omega arith) (c .before .if3 .taken)) (c .size .ensures k)
 
 returns-4 : tie.Need-returns-4
-returns-4 c k = after _ _ _ _ _ _ (omega arith) (λ f. plain-like _ k f _ (omega arith) (c .before .before .before .if2 .left) (c .before .if3 .left)) (c .size2 .ensures k)
+returns-4 c k =
+    after _ _ _ _ _ _ (omega arith) (λ f. plain-like _ k f _ (omega arith) (c .before .before .before .if2 .left) (c .before .if3 .left))
+    (c .size2 .ensures k)
 
 pub value-spec : {M : Type 1} → statement M
 value-spec =

@@ -4,11 +4,12 @@ use native.Mathlib.Omega.{arith}
 use Rattle.monthfile.specs.Passing.{Within}
 use Rattle.monthfile.proofs.BlockSteps.{over, over-m, over-not, ends, stays-faulty, stays-full}
 use borrow.Author.Needs.{needs}
-use Rattle.monthfile.proofs.scanner.end.Statement.{statement}
-use Rattle.monthfile.proofs.scanner.end.Tie as tie
+use Rattle.monthfile.proofs.scanner.file_end.Statement.{statement}
+use Rattle.monthfile.proofs.scanner.file_end.Tie as tie
 
 returns : tie.Need-returns
-returns c = ends _ _ (c .before .before .passed .given .1) (over _ _ (c .if1 .taken)) (subst (Within _ 0) (c .before .before .passed .given .1) (c .before .before .before .before .pre))
+returns c = ends _ _ (c .before .before .passed .given .1) (over _ _ (c .if1 .taken))
+    (subst (Within _ 0) (c .before .before .passed .given .1) (c .before .before .before .before .pre))
 
 returns-2 : tie.Need-returns-2
 returns-2 c = ends _ _ (c .before .before .before .before .passed .given .1) (over-m _ _ (omega arith) (c .if2 .taken))
@@ -24,8 +25,8 @@ returns-4 c = stays-faulty _ _ (c .before .passed2 .given .1) (c .before .before
 returns-5 : tie.Need-returns-5
 returns-5 c = stays-full _ _ (c .before .passed3 .given .1) (c .before .before .before .pre)
 
-pub end-spec : {M : Type 1} → statement M
-end-spec =
+pub file-end-spec : {M : Type 1} → statement M
+file-end-spec =
     tie.close
     (tie.spec
     (λ c. search needs)

@@ -15,19 +15,22 @@ use Rattle.rules.specs.Verdict.{accepted}
 use Rattle.rules.specs.Lines.{Lines, agentOf, userOf, monthLines}
 use Rattle.rules.specs.Refusals.{refusal}
 use Rattle.rules.specs.Calls.{stateOf, verdictOf}
+use Rattle.charges.specs.declared.scan.Sums.{Sums}
 use Rattle.closing.specs.Judged.{Judges}
 use Rattle.statement.specs.Statement.{roomsOf, refusalOf}
-use Rattle.statement.specs.Writes.{Found, Writable}
-use Rattle.statement.proofs.Stating.{firstTests, roomy, first-refuses, room, as-closing, states-refused, states-accepted, user-count, agent-count, writable}
-use Rattle.statement.proofs.finish.Statement.{statement}
-use Rattle.statement.proofs.finish.Tie as tie
+use Rattle.records.specs.Taking.{FirstOf}
+use Rattle.charges.specs.Scan.{scanned, ScanFinds}
+use Rattle.statement.specs.Writes.{Writable}
+use Rattle.statement.proofs.Stating.{firstTests, roomy, first-refuses, room, few-agents, as-closing, states-refused, states-accepted, user-count, agent-count, all-there, writable}
+use Rattle.statement.proofs.state_first.Statement.{statement}
+use Rattle.statement.proofs.state_first.Tie as tie
 
 module _ (s : tie.Start) (points : List Point) where
   abbrev l : Lines
-  l = monthLines (s .args .month) (s .args .ons) (s .args .agents .now) (s .args .users .now) points
+  l = monthLines (s .args .line .month) (s .args .line .ons) (s .args .agents .now) (s .args .users .now) points
 
   abbrev FoundOf : Type 0
-  FoundOf = Found (s .args .users .now) (s .args .n) (s .args .s) (s .args .c) points
+  FoundOf = FirstOf (s .args .n) points (s .args .points .now)
 
 -- 1 and 2
 first-is :
@@ -38,19 +41,35 @@ first-is :
     ≡ verdictOf (c .counts-verdict .result)
 first-is c points f =
     let a = c .before .args in
-    rw (length-map (a .users .now) userOf, length-map (a .agents .now) agentOf, sym (f .scan .counted)) (sym (c .counts-verdict .ensures (a .held .now)))
+    rw (length-map (a .users .now) userOf, length-map (a .agents .now) agentOf, sym (f .counted)) (sym (c .counts-verdict .ensures (a .held .now)))
+
+-- what the scan finds of these lines is what it finds of the first 1,024 points
+finds : (c : tie.After-scan) (points : List Point) → let s = c .before .before .before .before in FoundOf s points → ScanFinds (s .args .users .now) (s .args .n) (c .scan .result) points
+finds c points f = record { counted = f .counted; sums = c .scan .ensures ∙ ap (scanned (map userOf (c .before .before .before .before .args .users .now))) (f .are) }
 
 -- these have passed, and the month is judged as a closing with all room
 module _ (c : tie.After-judge) where
   abbrev start : tie.Start
-  start = c .before .before .before .before
+  start = c .before .before .before .before .before .before .before
+
+  abbrev sums : Sums
+  sums = c .before .before .before .scan .result
+
+  month-fits : SFits w64 (start .args .line .month)
+  month-fits = search needs
+
+  ons-fits : SFits w64 (start .args .line .ons)
+  ons-fits = search needs
 
   module _ (points : List Point) (f : FoundOf start points) where
     passed-first : let a = start .args in firstTests (stateOf (a .ledger) (a .held .now)) (roomsOf (a .held .now) (a .point-rows .now) (a .user-rows .now) (a .payee-rows .now)) (length (map userOf (a .users .now))) (length (map agentOf (a .agents .now))) (length points) ≡ accepted
-    passed-first = first-is (c .before .before .before) points f ∙ ap verdictOf (c .before .enum-told .given .1)
+    passed-first = first-is (c .before .before .before .before .before .before) points f ∙ ap verdictOf (c .before .before .before .before .enum-told .given .1)
 
-    judged : let a = start .args in Judges (a .ledger) (a .held .now) (roomy (length (a .held .now))) (a .month) (a .ons) (a .agents .now) (a .users .now) points (c .judge .result)
-    judged = simp (toZ-ofZ, start .fits .month, start .fits .ons) at (c .judge .ensures points (f .scan))
+    found : ScanFinds (start .args .users .now) (start .args .n) sums points
+    found = finds (c .before .before .before) points f
+
+    judged : let a = start .args in Judges (a .ledger) (a .held .now) (roomy (length (a .held .now))) (a .line .month) (a .line .ons) (a .agents .now) (a .users .now) points (c .judge .result)
+    judged = simp (toZ-ofZ month-fits, toZ-ofZ ons-fits) at (c .judge .ensures points found)
 
     same-refusal : let a = start .args in refusalOf (a .ledger) (a .held .now) (a .point-rows .now) (a .user-rows .now) (a .payee-rows .now) (l start points) ≡ verdictOf (c .judge .result .verdict)
     same-refusal = as-closing _ _ (l start points) passed-first ∙ sym (judged .verdict)
@@ -60,16 +79,16 @@ module _ (c : tie.After-judge) where
       unrefused = sym (judged .verdict) ∙ ap verdictOf e
 
       users-are : length (start .args .users .now) ≡ start .args .ledger .users
-      users-are = let a = start .args in user-count (a .ledger) (a .held .now) (a .month) (a .ons) (a .agents .now) (a .users .now) (a .n) (a .s) (a .c) points f unrefused
+      users-are = let a = start .args in user-count (a .ledger) (a .held .now) (a .line .month) (a .line .ons) (a .agents .now) (a .users .now) (a .n) sums points found unrefused
 
       agents-are : length (start .args .agents .now) ≡ start .args .ledger .agents
-      agents-are = let a = start .args in agent-count (a .ledger) (a .held .now) (a .month) (a .ons) (a .agents .now) (a .users .now) (a .n) (a .s) (a .c) points f unrefused
+      agents-are = let a = start .args in agent-count (a .ledger) (a .held .now) (a .line .month) (a .line .ons) (a .agents .now) (a .users .now) (a .n) sums points found unrefused
 
       held-reach : length (start .args .users .now) ≤ length (start .args .held .now)
       held-reach = omega (arith, users-are, room _ _ (l start points) passed-first .held)
 
       points-reach : start .args .n ≤ length (start .args .point-rows .now)
-      points-reach = omega (arith, f .scan .counted, room _ _ (l start points) passed-first .points)
+      points-reach = omega (arith, f .counted, room _ _ (l start points) passed-first .points)
 
       users-reach : length (start .args .users .now) ≤ length (start .args .user-rows .now)
       users-reach = omega (arith, users-are, room _ _ (l start points) passed-first .users)
@@ -77,10 +96,10 @@ module _ (c : tie.After-judge) where
       payees-reach : length (start .args .agents .now) + 1 ≤ length (start .args .payee-rows .now)
       payees-reach = omega (arith, agents-are, room _ _ (l start points) passed-first .payees)
 
-      may-write : let a = start .args in Writable (a .month) (a .ons) (a .agents .now) (a .users .now) (take (length (a .users .now)) (a .held .now)) (a .s) (a .c) (c .judge .result .bills) (take (a .n) (a .point-rows .now)) (take (length (a .users .now)) (a .user-rows .now)) (take (length (a .agents .now) + 1) (a .payee-rows .now)) points
+      may-write : let a = start .args in Writable (a .line .month) (a .line .ons) (a .agents .now) (a .users .now) (take (length (a .users .now)) (a .held .now)) (a .points .now) sums (c .judge .result .bills) (take (a .n) (a .point-rows .now)) (take (length (a .users .now)) (a .user-rows .now)) (take (length (a .agents .now) + 1) (a .payee-rows .now))
       may-write =
           let a = start .args in
-          writable (a .ledger) (a .held .now) (a .month) (a .ons) (a .agents .now) (a .users .now) (a .n) (a .s) (a .c) points f unrefused (c .judge .result .bills) (a .point-rows .now) (a .user-rows .now) (a .payee-rows .now) (judged .bills unrefused)
+          writable (a .ledger) (a .held .now) (a .line .month) (a .line .ons) (a .agents .now) (a .users .now) (a .n) sums points found unrefused (a .points .now) (c .judge .result .bills) (a .point-rows .now) (a .user-rows .now) (a .payee-rows .now) f (judged .bills unrefused)
           (room _ _ (l start points) passed-first .points)
           (room _ _ (l start points) passed-first .users)
           (room _ _ (l start points) passed-first .payees)
@@ -121,10 +140,7 @@ slice-aggregate-write-4 : tie.Need-slice-aggregate-write-4
 slice-aggregate-write-4 c = let d = c .before .before .before .before in sym (length-take-le _ _ (payees-reach (j d) (ps d) (known d) (so d)))
 
 write-requires : tie.Need-write-requires
-write-requires c κs =
-    let d = c .before .before .before .before in
-    let s = start (j d) in
-    rw (toZ-ofZ (s .fits .month), toZ-ofZ (s .fits .ons)) (_, may-write (j d) (ps d) (known d) (so d))
+write-requires c κs = let d = c .before .before .before .before in may-write (j d) (ps d) (known d) (so d)
 
 returns : tie.Need-returns
 returns c points f =
@@ -146,14 +162,20 @@ returns-3 c points f =
     let s = start (j d) in
     let a = s .args in
     let r : SFits w64 (w .write .result) = search needs in
-    let e = w .write .ensures points (rw (toZ-ofZ (s .fits .month), toZ-ofZ (s .fits .ons)) (may-write (j d) points f (so d))) in
-    let t = rw (toZ-ofZ (s .fits .month), toZ-ofZ (s .fits .ons), users-are (j d) points f (so d)) at e in
+    let all = all-there (a .ledger) (a .held .now) (a .line .month) (a .line .ons) (a .agents .now) (a .users .now) (a .n) (sums (j d)) points (found (j d) points f) (unrefused (j d) points f (so d)) (a .points .now) f in
+    let t = rw (users-are (j d) points f (so d), sym all) at (w .write .ensures) in
     let o = same-refusal (j d) points f ∙ ap verdictOf (so d) in
-    rw (toZ-ofZ r, f .scan .counted, sym (length-map (a .users .now) userOf), sym (length-map (a .agents .now) agentOf))
+    rw (toZ-ofZ r, f .counted, sym (length-map (a .users .now) userOf), sym (length-map (a .agents .now) agentOf))
     (states-accepted (a .ledger) (a .held .now) (l s points) (a .point-rows .now) (a .user-rows .now) (a .payee-rows .now) o t)
 
-pub finish-spec : {M : Type 1} → statement M
-finish-spec =
+judge-requires : tie.Need-judge-requires
+judge-requires c κs = let s = c .before .before .before .before .before .before in (s .pre .0, finds (c .before .before) (s .pre .0) (s .pre .1))
+
+add-m : tie.Need-add-m
+add-m c = omega (arith, agents-are (j c) (ps c) (known c) (so c), few-agents _ _ (l (start (j c)) (ps c)) (passed-first (j c) (ps c) (known c)))
+
+pub state-first-spec : {M : Type 1} → statement M
+state-first-spec =
     tie.close
     (tie.spec
     (λ c κs. search needs)
@@ -161,10 +183,11 @@ finish-spec =
     (λ c κs. search needs)
     (λ c. search needs)
     (λ c κs. search needs)
+    judge-requires
     (λ c. search needs)
     (λ c κs. search needs)
     (λ c. search needs)
-    (λ c. search needs)
+    add-m
     slice-aggregate-write
     slice-relend-prefix-write
     slice-aggregate-write-2

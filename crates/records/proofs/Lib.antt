@@ -1,0 +1,4 @@
+-- `Walking` is what the walks by hand share; `Lines` is a local array of lines in memory; `Taking` the facts of the loop over the points.
+pub mod Lines
+pub mod Taking
+pub mod Walking
