@@ -79,7 +79,8 @@ fn finish(
     work: &mut [u64],
 ) -> Outcome
     requires { ⌜ ((points : List Point) × ScanFinds (now users) n s points) ⌝ }
-    ensures { λ r. ⌜ Finishes ledger (now (held .entry)) line (now (agents .entry)) (now (users .entry)) n s (now (cells .entry)) (now (work .entry)) r (now (held .exit)) (now (cells .exit)) (now (work .exit)) ⌝ }
+    ensures { λ r. ⌜ Finishes ledger (now (held .entry)) line (now (agents .entry)) (now (users .entry)) n s (now (cells .entry)) (now (work .entry))
+        r (now (held .exit)) (now (cells .exit)) (now (work .exit)) ⌝ }
 {
     let first = limits::counts::closing_verdict(
         ledger,
@@ -134,7 +135,8 @@ fn settle(
     work: &mut [u64],
 ) -> Outcome
     requires { ⌜ ((points : List Point) × ScanFinds (now users) n s points) ⌝ }
-    ensures { λ r. ⌜ Finishes ledger (now (held .entry)) (record { month = month; ons = ons }) (now (agents .entry)) (now (users .entry)) n s (now (cells .entry)) (now (work .entry)) r (now (held .exit)) (now (cells .exit)) (now (work .exit)) ⌝ }
+    ensures { λ r. ⌜ Finishes ledger (now (held .entry)) (record { month = month; ons = ons }) (now (agents .entry)) (now (users .entry)) n s (now (cells .entry)) (now (work .entry))
+        r (now (held .exit)) (now (cells .exit)) (now (work .exit)) ⌝ }
 {
     let line = MonthLine { month, ons };
     finish(ledger, held, line, agents, users, n, s, cells, work)
@@ -152,7 +154,8 @@ pub fn close(
     cells: &mut [i64],
     work: &mut [u64],
 ) -> Outcome
-    ensures { λ r. ⌜ Closes ledger (now (held .entry)) (monthLines (record { month = month; ons = ons }) (now (agents .entry)) (now (users .entry)) (now (points .entry))) (now (cells .entry)) (now (work .entry)) r (now (held .exit)) (now (cells .exit)) (now (work .exit)) ⌝ }
+    ensures { λ r. ⌜ Closes ledger (now (held .entry)) (monthLines (record { month = month; ons = ons }) (now (agents .entry)) (now (users .entry)) (now (points .entry)))
+        (now (cells .entry)) (now (work .entry)) r (now (held .exit)) (now (cells .exit)) (now (work .exit)) ⌝ }
 {
     let n = points.len();
     let s = records::scan(points, users);

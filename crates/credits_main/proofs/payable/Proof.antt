@@ -16,7 +16,9 @@ use Rattle.credits.proofs.Tested.{accepted-lines}
 use Rattle.credits_main.proofs.payable.Statement.{statement}
 use Rattle.credits_main.proofs.payable.Tie as tie
 
-lines : (c : tie.After-enum-told2) → AgentLines (map agentOf (c .before .before .before .before .before .before .before .before .before .before .before .before .args .agents .now))
+lines :
+    (c : tie.After-enum-told2)
+    → AgentLines (map agentOf (c .before .before .before .before .before .before .before .before .before .before .before .before .args .agents .now))
 lines c =
     let d = c .before .before in
     accepted-lines _ (rw length-map (d .before .if4 .left)) (sym (d .agents-verdict .ensures) ∙ ap verdictOf (c .enum-told2 .given .1))
