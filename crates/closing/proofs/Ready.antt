@@ -59,7 +59,10 @@ module _ (g : Ledger) (held cells : List ℤ) (work : List ℕ) (line : MonthLin
     credit-count : length (take (length users) held) ≡ length users
     credit-count = length-take-le (length users) held held-reach
 
-    pub writable : (bills : Bills) → Billed (length users) (stateOf g held) l bills → Writable bills line agents (take (length users) held) (take ((length agents + 1) * length users) cells) work (stateOf g held) short l
+    pub writable :
+        (bills : Bills)
+        → Billed (length users) (stateOf g held) l bills
+        → Writable bills line agents (take (length users) held) (take ((length agents + 1) * length users) cells) work (stateOf g held) short l
     writable bills b = record {
       accepts = e;
       one-each = length-take-le (g .users) held (room .held);

@@ -103,5 +103,10 @@ module _ {bills : Bills} {line : MonthLine} {agents : List (List ℤ)} {held cel
       pub asked : Fillable vc vd × (length cells ≡ length vc * length vd) × (length vc * length vd ≤ length work)
       asked = (rw (e, f) fillable, w .cells-count ∙ sym size, rw size (w .work-count))
 
-      pub written : {held′ cells′ : List ℤ} {work′ : List ℕ} → Table vc vd cells′ → held′ ≡ newCredits st l → length work′ ≡ length work → Written st l work held′ cells′ work′
+      pub written :
+          {held′ cells′ : List ℤ} {work′ : List ℕ}
+          → Table vc vd cells′
+          → held′ ≡ newCredits st l
+          → length work′ ≡ length work
+          → Written st l work held′ cells′ work′
       written {cells′ = cells′} t h s = record { credits = h; table = rw (sym e, sym f) t; scratch = s }

@@ -80,7 +80,8 @@ fn through_lines(
     scanned: Answer,
 ) -> Answer
     requires { ⌜ (first ≡ Accepted → ledger .users ≤ length (now held)) ⌝ }
-    ensures { λ r. ⌜ ((points : List Point) → (first ≡ Accepted → verdictOf scanned ≡ eachLine (pointTest (map userOf (now (users .entry)))) 1 points)
+    ensures { λ r. ⌜ ((points : List Point)
+        → (first ≡ Accepted → verdictOf scanned ≡ eachLine (pointTest (map userOf (now (users .entry)))) 1 points)
         → verdictOf r ≡ (verdictOf first
         then stateTests (stateOf ledger (now (held .entry))) line
         then lineTests (monthLines line (now (agents .entry)) (now (users .entry)) points))) ⌝ }
@@ -99,7 +100,8 @@ fn through_lines(
 
 // 8, 9 and 10 of a month whose lines have passed, and its amounts. `held` has one entry for each user.
 fn weighed(held: &[i64], agents: &[AgentLine], users: &[UserLine], s: Sums) -> Judged
-    requires { ⌜ ((st : State) × (line : MonthLine) × (points : List Point) × Weighable line (now held) (now agents) (now users) s st points) ⌝ }
+    requires { ⌜ ((st : State) × (line : MonthLine) × (points : List Point)
+        × Weighable line (now held) (now agents) (now users) s st points) ⌝ }
     ensures { λ r. ⌜ Weighs (now (held .entry)) (now (agents .entry)) (now (users .entry)) s r ⌝ }
 {
     let n = users.len();
@@ -137,8 +139,10 @@ pub fn judge(
     users: &[UserLine],
     s: Sums,
 ) -> Judged
-    requires { ⌜ ((points : List Point) × (short : Verdict) × Begun ledger (now held) (monthLines line (now agents) (now users) points) s first short) ⌝ }
-    ensures { λ r. ⌜ ((points : List Point) (short : Verdict) → Begun ledger (now (held .entry)) (monthLines line (now (agents .entry)) (now (users .entry)) points) s first short
+    requires { ⌜ ((points : List Point) × (short : Verdict)
+        × Begun ledger (now held) (monthLines line (now agents) (now users) points) s first short) ⌝ }
+    ensures { λ r. ⌜ ((points : List Point) (short : Verdict)
+        → Begun ledger (now (held .entry)) (monthLines line (now (agents .entry)) (now (users .entry)) points) s first short
         → Judges ledger (now (held .entry)) short (monthLines line (now (agents .entry)) (now (users .entry)) points) r) ⌝ }
 {
     let scanned = s.verdict;

@@ -32,8 +32,10 @@ pub fn write(
     cells: &mut [i64],
     work: &mut [u64],
 )
-    requires { ⌜ ((st : State) × (short : Verdict) × (l : Lines) × Writable bills line (now agents) (now held) (now cells) (now work) st short l) ⌝ }
-    ensures { λ _. ⌜ ((st : State) (short : Verdict) (l : Lines) → Writable bills line (now (agents .entry)) (now (held .entry)) (now (cells .entry)) (now (work .entry)) st short l
+    requires { ⌜ ((st : State) × (short : Verdict) × (l : Lines)
+        × Writable bills line (now agents) (now held) (now cells) (now work) st short l) ⌝ }
+    ensures { λ _. ⌜ ((st : State) (short : Verdict) (l : Lines)
+        → Writable bills line (now (agents .entry)) (now (held .entry)) (now (cells .entry)) (now (work .entry)) st short l
         → Written st l (now (work .entry)) (now (held .exit)) (now (cells .exit)) (now (work .exit))) ⌝ }
 {
     let n = held.len();

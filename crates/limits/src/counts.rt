@@ -57,7 +57,9 @@ pub fn closing_verdict(
     work: u64,
 ) -> Answer
     ensures { λ r. ⌜ ((credits : List ℤ) → verdictOf r
-        ≡ countTests (stateOf ledger credits) (shortSlices (stateOf ledger credits) (record { held = held; cells = cells; work = work })) users agents points) ⌝ }
+        ≡ countTests (stateOf ledger credits)
+        (shortSlices (stateOf ledger credits) (record { held = held; cells = cells; work = work }))
+        users agents points) ⌝ }
 {
     if bad_counts(ledger, users, agents, points) {
         return Answer::Refused(1, 0);

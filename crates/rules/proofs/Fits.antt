@@ -36,7 +36,10 @@ amounts-within e =
     let e₁ = or-false _ _ (e₂ .0) in
     (outside-false _ _ _ (e₁ .0), outside-false _ _ _ (e₁ .1), outside-false _ _ _ (e₂ .1), outside-false _ _ _ (e₃ .1))
 
-band-within : {tariff discount contracted verified : ℤ} → badBand tariff discount contracted verified ≡ false → Tariff tariff × Discount discount × Power contracted × Power verified
+band-within :
+    {tariff discount contracted verified : ℤ}
+    → badBand tariff discount contracted verified ≡ false
+    → Tariff tariff × Discount discount × Power contracted × Power verified
 band-within e =
     let e₃ = or-false _ _ e in
     let e₂ = or-false _ _ (e₃ .0) in

@@ -56,7 +56,10 @@ module _ (users agents : ℕ) (s : State) (c : Call) (rest : List ℤ) (a : Agre
   same-verdict = ap (λ (x : State). judged x (fed c)) (a .state)
 
   -- a refused closing changes nothing
-  step-refused : (n p : ℕ) → NotClosed (c .ledger) (c .held) (c .cells) (c .work) (c .outcome) (c .heldLeft) (c .cellsLeft) (c .workLeft) n p → Step (refused n p) users agents s c rest
+  step-refused :
+      (n p : ℕ)
+      → NotClosed (c .ledger) (c .held) (c .cells) (c .work) (c .outcome) (c .heldLeft) (c .cellsLeft) (c .workLeft) n p
+      → Step (refused n p) users agents s c rest
   step-refused n p k =
       record {
         answer = ap (λ (x : Outcome). verdictOf (x .answer)) (k .outcome);

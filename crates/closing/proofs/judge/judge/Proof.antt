@@ -23,10 +23,16 @@ module _ (s : tie.Start) (points : List Point) where
   abbrev throughLines : Verdict
   throughLines = verdictOf (s .args .first) then stateTests (stateOf (s .args .ledger) (s .args .held .now)) (s .args .line) then lineTests lines
 
-through-told : (c : tie.After-through-lines) (points : List Point) {short : Verdict} → BegunBy (c .before) points short → verdictOf (c .through-lines .result) ≡ throughLines (c .before) points
+through-told :
+    (c : tie.After-through-lines) (points : List Point) {short : Verdict}
+    → BegunBy (c .before) points short
+    → verdictOf (c .through-lines .result) ≡ throughLines (c .before) points
 through-told c points b = c .through-lines .ensures points (points-found b)
 
-passed : (c : tie.After-enum-told) (points : List Point) {short : Verdict} → BegunBy (c .before .before .before) points short → accepted ≡ throughLines (c .before .before .before) points
+passed :
+    (c : tie.After-enum-told) (points : List Point) {short : Verdict}
+    → BegunBy (c .before .before .before) points short
+    → accepted ≡ throughLines (c .before .before .before) points
 passed c points b = sym (ap verdictOf (c .enum-told .given .1)) ∙ through-told (c .before .before) points b
 
 through-lines-requires : tie.Need-through-lines-requires

@@ -21,7 +21,10 @@ use Rattle.credits.proofs.payees.own_credits.Tie as tie
 abbrev own : MonthLine → List (List ℤ) → List ℤ
 own line agents = ownCredits line (map agentOf agents)
 
-own-at : (line : MonthLine) (agents : List (List ℤ)) (i : ℕ) → i < length agents → getD (own line agents) i (pos 0) ≡ ownCredit (line .month) (agentOf (getD agents i []))
+own-at :
+    (line : MonthLine) (agents : List (List ℤ)) (i : ℕ)
+    → i < length agents
+    → getD (own line agents) i (pos 0) ≡ ownCredit (line .month) (agentOf (getD agents i []))
 unfolding ownCredits
 own-at line agents i h =
     getD-map (ownCredit (line .month)) (map agentOf agents) i (agentOf []) (pos 0) (rw length-map h)

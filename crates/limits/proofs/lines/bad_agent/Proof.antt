@@ -21,7 +21,10 @@ returns c =
     let f : SFits w64 (getD l 4 (pos 0)) = search needs in
     let g : SFits w64 (getD l 5 (pos 0)) = search needs in
     let h : SFits w64 (getD l 6 (pos 0)) = search needs in
-    simp (c .before .before .before .before .before .before .before .before .before .is-number .ensures, c .before .before .before .before .bad-amounts .ensures, c .before .before .bad-correction .ensures, c .bad-correction2 .ensures, toZ-ofZ, a, b, d, e, f, g, h)
+    let first = c .before .before .bad-correction in
+    let amounts = c .before .before .before .before in
+    let number = amounts .before .before .before .before .before in
+    simp (number .is-number .ensures, amounts .bad-amounts .ensures, first .ensures, c .bad-correction2 .ensures, toZ-ofZ, a, b, d, e, f, g, h)
 
 pub bad-agent-spec : {M : Type 1} → statement M
 bad-agent-spec =
