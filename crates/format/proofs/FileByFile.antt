@@ -11,12 +11,12 @@ use lib.IntN.{ℤ, negsuc}
 use Rattle.format.specs.Bytes.{m}
 use Rattle.format.specs.Blocks.{Block, Slices, free, blocks}
 use Rattle.format.specs.Decimal.{All}
-use Rattle.format.specs.Grammar.{namesText, linesText, blocksText, BlocksFit, File, kindsOf, rows, fileText, Fits, Files}
+use Rattle.format.specs.Grammar.{namesText, linesText, blocksText, BlocksFit, File, kindsOf, rows, fileText, Fits, fits-slices, Files}
 use Rattle.format.specs.Grammar as G
 use Rattle.format.specs.Machine.{checkOf}
 use Rattle.format.specs.Language.{Follows}
 use Rattle.format.specs.Reading.{accepted, reading, Read, AtLeast, ReadsOn, last, then}
-use Rattle.format.proofs.Slices.{fits-slices, few-all}
+use Rattle.format.proofs.Slices.{few-all}
 use Rattle.format.proofs.Accepts.{begins-m}
 use Rattle.format.proofs.FileCheck.{file-check}
 use Rattle.format.proofs.Values.{few-lines}

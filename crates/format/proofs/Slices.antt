@@ -1,51 +1,15 @@
--- What it is to fit slices of such lengths, and not to. Assumes nothing.
+-- What it is not to fit slices of such lengths, and when they take any file. Assumes nothing.
 use Prim.Native.Nat.{ℕ, _≤_}
-use Prim.Native.String.{String}
-use mathlib.Core.Logic.{_↔_, inl, inr}
+use mathlib.Core.Logic.{inl, inr}
 use mathlib.Core.List.{List, [], _∷_}
 use native.Mathlib.Omega.{arith}
 use native.Mathlib.Decide.{decLe}
 use lib.ListN.{length}
 use lib.IntN.{ℤ}
-use Rattle.format.specs.Blocks.{kinds, Slices, free, blocksOf}
+use Rattle.format.specs.Blocks.{Slices, free}
 use Rattle.format.specs.Decimal.{All}
-use Rattle.format.specs.Grammar.{BlocksFit, File, kindsOf, Fits}
+use Rattle.format.specs.Grammar.{File, kindsOf, Fits, Few, fits-slices}
 use Rattle.format.specs.Reading.{Over, AtLeast}
-
--- no kind has more lines than its slice takes
-abbrev pub Few : Slices → List (List (List ℤ)) → Type 0
-Few [] w = Unit {0}
-Few (n ∷ r) [] = Unit {0}
-Few (n ∷ r) (ls ∷ w) = (length ls ≤ n) × Few r w
-
--- TO FIT SLICES is to fit any count, and to have no more lines of a kind than its slice takes
-blocks-few :
-    (ks : List (List String)) (r : Slices) (w : List (List (List ℤ)))
-    → BlocksFit (blocksOf ks r) w
-    → BlocksFit (blocksOf ks free) w × Few r w
-blocks-few [] [] [] x = (tt, tt)
-blocks-few [] (n ∷ r) [] x = (tt, tt)
-blocks-few [] r (ls ∷ w) x = absurd x
-blocks-few (k ∷ ks) r [] x = absurd x
-blocks-few (k ∷ ks) [] (ls ∷ w) x = (x, tt)
-blocks-few (k ∷ ks) (n ∷ r) (ls ∷ w) x = let c = blocks-few ks r w (x .2) in ((x .0, tt, c .0), (x .1, c .1))
-
-few-blocks :
-    (ks : List (List String)) (r : Slices) (w : List (List (List ℤ)))
-    → BlocksFit (blocksOf ks free) w
-    → Few r w
-    → BlocksFit (blocksOf ks r) w
-few-blocks [] r [] x h = tt
-few-blocks [] r (ls ∷ w) x h = absurd x
-few-blocks (k ∷ ks) r [] x h = absurd x
-few-blocks (k ∷ ks) [] (ls ∷ w) x h = x
-few-blocks (k ∷ ks) (n ∷ r) (ls ∷ w) x h = (x .0, h .0, few-blocks ks r w (x .2) (h .1))
-
-pub fits-slices : (r : Slices) (f : File) → Fits r f ↔ (Fits free f × Few r (kindsOf f))
-fits-slices r f = (
-  λ x. let c = blocks-few kinds r (kindsOf f) (x .2) in ((x .0, x .1, c .0), c .1),
-  λ x. (x .0 .0, x .0 .1, few-blocks kinds r (kindsOf f) (x .0 .2) (x .1)),
-)
 
 -- a file that the slices do not take has more lines of a kind than its slice takes, and only such a file
 over : (r : Slices) (w : List (List (List ℤ))) → (Few r w → ⊥) → Over r w

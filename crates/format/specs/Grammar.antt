@@ -1,12 +1,14 @@
 -- The month file as it is written, with no machine (paper 01, "The month file"): values parted by commas, lines and their end, blocks, a
 -- file, files on end. Assumes nothing.
 use Prim.Native.Nat.{ℕ, _≤_}
+use Prim.Native.String.{String}
 use mathlib.Core.Path.{_≡_, refl, ap}
+use mathlib.Core.Logic.{_↔_}
 use mathlib.Core.List.{List, [], _∷_, _++_, map, append-assoc, append-nil}
 use lib.ListN.{length}
 use lib.IntN.{ℤ}
 use Rattle.format.specs.Bytes.{bytes, lineEnd, comma}
-use Rattle.format.specs.Blocks.{Count, one, any, upTo, Block, columns, Slices, free, blocks}
+use Rattle.format.specs.Blocks.{Count, one, any, upTo, Block, columns, kinds, Slices, free, blocksOf, blocks}
 use Rattle.format.specs.Decimal.{text, Small, All}
 
 -- what follows the first entry of a line but its end: each further one after a comma
@@ -99,6 +101,41 @@ fileText f = blocksText (blocks free) (rows f)
 -- it has lines of the table's columns, values of at most 18 digits, and no more lines than the slices take
 abbrev pub Fits : Slices → File → Type 0
 Fits r f = BlocksFit (blocks r) (rows f)
+
+-- no kind has more lines than its slice takes
+abbrev pub Few : Slices → List (List (List ℤ)) → Type 0
+Few [] w = Unit {0}
+Few (n ∷ r) [] = Unit {0}
+Few (n ∷ r) (ls ∷ w) = (length ls ≤ n) × Few r w
+
+-- to fit slices is to fit any count, and to have no more lines of a kind than its slice takes
+blocks-few :
+    (ks : List (List String)) (r : Slices) (w : List (List (List ℤ)))
+    → BlocksFit (blocksOf ks r) w
+    → BlocksFit (blocksOf ks free) w × Few r w
+blocks-few [] [] [] x = (tt, tt)
+blocks-few [] (n ∷ r) [] x = (tt, tt)
+blocks-few [] r (ls ∷ w) x = absurd x
+blocks-few (k ∷ ks) r [] x = absurd x
+blocks-few (k ∷ ks) [] (ls ∷ w) x = (x, tt)
+blocks-few (k ∷ ks) (n ∷ r) (ls ∷ w) x = let c = blocks-few ks r w (x .2) in ((x .0, tt, c .0), (x .1, c .1))
+
+few-blocks :
+    (ks : List (List String)) (r : Slices) (w : List (List (List ℤ)))
+    → BlocksFit (blocksOf ks free) w
+    → Few r w
+    → BlocksFit (blocksOf ks r) w
+few-blocks [] r [] x h = tt
+few-blocks [] r (ls ∷ w) x h = absurd x
+few-blocks (k ∷ ks) r [] x h = absurd x
+few-blocks (k ∷ ks) [] (ls ∷ w) x h = x
+few-blocks (k ∷ ks) (n ∷ r) (ls ∷ w) x h = (x .0, h .0, few-blocks ks r w (x .2) (h .1))
+
+pub fits-slices : (r : Slices) (f : File) → Fits r f ↔ (Fits free f × Few r (kindsOf f))
+fits-slices r f = (
+  λ x. let c = blocks-few kinds r (kindsOf f) (x .2) in ((x .0, x .1, c .0), c .1),
+  λ x. (x .0 .0, x .0 .1, few-blocks kinds r (kindsOf f) (x .0 .2) (x .1)),
+)
 
 -- "a text of one or more files on end"
 pub data Files : List ℕ → Type 0 where
