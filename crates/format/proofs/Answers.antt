@@ -1,50 +1,29 @@
 -- READING, in paper 01's words: its answer is what paper 01 says, and paper 01's words leave no other. Assumes nothing.
 use Prim.Native.Nat.{ℕ, suc, _+_, _≤_, _<_, min}
 use mathlib.Core.Path.{_≡_, refl, ap, sym, _∙_, subst}
-use mathlib.Core.Logic.{_↔_, inl, inr}
+use mathlib.Core.Logic.{_↔_}
 use mathlib.Core.Bool.{true}
-use mathlib.Core.List.{List, [], _∷_, _++_}
+use mathlib.Core.List.{List, _++_}
 use native.Mathlib.Omega.{arith}
-use native.Mathlib.Decide.{decLe}
 use lib.ListN.{length, take, drop, getD, length-append}
 use lib.Seq.{drop-append-seam}
-use lib.IntN.{ℤ}
 use Rattle.format.specs.Bytes.{startsLine}
 use Rattle.format.specs.Blocks.{Slices, free, blocks}
-use Rattle.format.specs.Grammar.{File, kindsOf, fileText, Fits, Few, fits-slices}
+use Rattle.format.specs.Grammar.{File, fileText, Fits}
 use Rattle.format.specs.Machine.{State, start}
 use Rattle.format.specs.Language.{Begins, Place, Follows, Stands}
 use Rattle.format.specs.Values.{readBlocks, fileOf}
-use Rattle.format.specs.Reading.{scan, scanAt, ReadingAnswer, accepted, refused, answer, reading, Over, Exceeds, Read, Why, faulty, tooLong}
+use Rattle.format.specs.Reading.{scan, scanAt, ReadingAnswer, accepted, refused, answer, reading, Exceeds, Read, Why, faulty, tooLong}
 use Rattle.format.specs.Reading.{Back, Says}
 use Rattle.format.specs.declared.Scanned.{Scanned}
 use Rattle.format.specs.declared.Scanned.the-variants.{Whole, Faulty, Full}
 use Rattle.format.proofs.Table.{sound-format}
+use Rattle.format.proofs.Slices.{too-many}
 use Rattle.format.proofs.Places.{Later, one-place, no-place, same-place}
 use Rattle.format.proofs.Sound.{sound}
 use Rattle.format.proofs.Values.{values-back}
 use Rattle.format.proofs.Scans.{Rests, rests-stands, Claim, claim}
 use Rattle.format.proofs.Wide.{wide, wide-start, Longer, Wider, wider}
-
--- a file that the slices do not take has more lines of a kind than its slice takes
-over : (r : Slices) (w : List (List (List ℤ))) → (Few r w → ⊥) → Over r w
-over [] w n = absurd (n tt)
-over (k ∷ r) [] n = absurd (n tt)
-over (k ∷ r) (ls ∷ w) n = by (decLe (length ls) k) (over r w)
-  where
-    by : Dec (length ls ≤ k) → ((Few r w → ⊥) → Over r w) → Over (k ∷ r) (ls ∷ w)
-    by (no h) o = inl (omega (arith, h))
-    by (yes h) o = inr (o (λ f. n (h, f)))
-
--- and it is no file that the slices take
-not-few : (r : Slices) (w : List (List (List ℤ))) → Over r w → Few r w → ⊥
-not-few [] w o f = o
-not-few (k ∷ r) [] o f = o
-not-few (k ∷ r) (ls ∷ w) (inl h) f = omega (arith, f .0)
-not-few (k ∷ r) (ls ∷ w) (inr o) f = not-few r w o (f .1)
-
-pub not-over : (r : Slices) (f : File) → Fits r f → Over r (kindsOf f) → ⊥
-not-over r f x o = not-few r (kindsOf f) o (fits-slices r f .0 x .1)
 
 module _ (r : Slices) (t : List ℕ) (from : ℕ) where
   abbrev s : List ℕ
@@ -105,11 +84,11 @@ module _ (r : Slices) (t : List ℕ) (from : ℕ) where
         whole = record {
           stands = x;
           over =
-              over r (kindsOf (x .file))
-              (λ few. c .through h
+              too-many r (x .file) (x .fits)
+              (λ fit. c .through h
               (record {
                 rest = w .rest;
-                whole = record { file = x .file; rest = x .rest; fits = fits-slices r (x .file) .1 (x .fits, few); follows = x .follows; is = x .is };
+                whole = record { file = x .file; rest = x .rest; fits = fit; follows = x .follows; is = x .is };
               }));
         };
       }

@@ -17,7 +17,7 @@ use Rattle.format.specs.Blocks.{one, any, upTo, month, kinds, Slices, fr
 use Rattle.format.specs.Grammar.{more, entries, line, File}
 use Rattle.format.specs.Machine.{Item, byte, end, lines, laidOut, State, stuck, at, value, isStuck, step, final, endsBefore, format, start}
 use Rattle.format.specs.Machine.{onward, TextVerdict, passes, fails, judge, number, checkOf}
-use Rattle.format.specs.Reading.{noRoom, tooMany, scan, scanAt, ReadingAnswer, accepted, refused, answer, reading, ReadsOn, last, then}
+use Rattle.format.specs.Reading.{noRoom, tooMany, scan, scanAt, ReadingAnswer, accepted, refused, answer, reading, AtLeast, ReadsOn, last, then}
 use Rattle.format.specs.Reading.{ComesBack, here, further}
 use Rattle.format.specs.Values.{readBlocks, fileOf}
 use Rattle.format.specs.declared.Scanned.{Scanned}
@@ -27,7 +27,7 @@ use Rattle.format.proofs.Table.{sound-format}
 use Rattle.format.proofs.Accepts.{within, beyond}
 use Rattle.format.proofs.FileCheck.{check-within}
 use Rattle.format.proofs.Wide.{wide, wide-start, Wider, wider}
-use Rattle.format.proofs.FileByFile.{AtLeast, next-within, checked-by-reading}
+use Rattle.format.proofs.FileByFile.{next-within, checked-by-reading}
 
 -- two verdicts are not one
 no-fault : (k p : ℕ) → Whole k ≡ Faulty p → ⊥

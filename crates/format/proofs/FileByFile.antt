@@ -11,11 +11,12 @@ use lib.IntN.{ℤ, negsuc}
 use Rattle.format.specs.Bytes.{m}
 use Rattle.format.specs.Blocks.{Block, Slices, free, blocks}
 use Rattle.format.specs.Decimal.{All}
-use Rattle.format.specs.Grammar.{namesText, linesText, blocksText, BlocksFit, File, kindsOf, rows, fileText, Fits, Few, fits-slices, Files}
+use Rattle.format.specs.Grammar.{namesText, linesText, blocksText, BlocksFit, File, kindsOf, rows, fileText, Fits, fits-slices, Files}
 use Rattle.format.specs.Grammar as G
 use Rattle.format.specs.Machine.{checkOf}
 use Rattle.format.specs.Language.{Follows}
-use Rattle.format.specs.Reading.{accepted, reading, Read, ReadsOn, last, then}
+use Rattle.format.specs.Reading.{accepted, reading, Read, AtLeast, ReadsOn, last, then}
+use Rattle.format.proofs.Slices.{few-all}
 use Rattle.format.proofs.Accepts.{begins-m}
 use Rattle.format.proofs.FileCheck.{file-check}
 use Rattle.format.proofs.Values.{few-lines}
@@ -38,14 +39,6 @@ few n (b ∷ bs) (ls ∷ w) x h =
     (omega arith, few n bs w (x .2) (omega arith))
 
 -- slices as long as a file's text take it
-abbrev pub AtLeast : ℕ → Slices → Type 0
-AtLeast n r = All (λ (k : ℕ). n ≤ k) r
-
-few-all : (n : ℕ) (r : Slices) (w : List (List (List ℤ))) → AtLeast n r → All (λ (ls : List (List ℤ)). length ls ≤ n) w → Few r w
-few-all n [] w h a = tt
-few-all n (k ∷ r) [] h a = tt
-few-all n (k ∷ r) (ls ∷ w) h a = (omega (arith, h .0, a .0), few-all n r w (h .1) (a .1))
-
 takes-all : (n : ℕ) (r : Slices) (f : File) → Fits free f → length (fileText f) ≤ n → AtLeast n r → Fits r f
 takes-all n r f x h e = fits-slices r f .1 (x, few-all n r (kindsOf f) e (few n (blocks free) (rows f) x h .1))
 

@@ -2,6 +2,7 @@
 --   Decimals    a value's text, in paper 01's words (`values`)
 --   Live        every state of the machine can be finished (`live`)
 --   Table       the table's rule: every block has a column and names that begin no line of values (`all-headed`)
+--   Slices      a file that slices do not take has more lines of a kind than its slice takes (`too-many`, `not-over`)
 --   Accepts     machine and language are the same (`accepts`), from Laid, Sound and Takes
 --   FileCheck   refusal 11's place is paper 01's (`judged`), and so is the file check's answer (`file-check`)
 --   Answers     reading's answer is what paper 01 says (`reads`), and no other is (`one-answer`, `reading-is`); `round-trip`
@@ -12,6 +13,7 @@
 pub mod Decimals
 pub mod Live
 pub mod Table
+pub mod Slices
 pub mod Laid
 pub mod Sound
 pub mod Takes

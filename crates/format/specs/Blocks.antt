@@ -45,6 +45,7 @@ Slices = List ℕ
 abbrev pub free : Slices
 free = []
 
+-- slices for so many agents, users and points
 abbrev pub slices : ℕ → ℕ → ℕ → Slices
 slices a u p = a ∷ u ∷ p ∷ []
 

@@ -108,8 +108,11 @@ Few [] w = Unit {0}
 Few (n ∷ r) [] = Unit {0}
 Few (n ∷ r) (ls ∷ w) = (length ls ≤ n) × Few r w
 
--- to fit slices is to fit and to have few lines
-blocks-few : (ks : List (List String)) (r : Slices) (w : List (List (List ℤ))) → BlocksFit (blocksOf ks r) w → BlocksFit (blocksOf ks free) w × Few r w
+-- to fit slices is to fit any count, and to have no more lines of a kind than its slice takes
+blocks-few :
+    (ks : List (List String)) (r : Slices) (w : List (List (List ℤ)))
+    → BlocksFit (blocksOf ks r) w
+    → BlocksFit (blocksOf ks free) w × Few r w
 blocks-few [] [] [] x = (tt, tt)
 blocks-few [] (n ∷ r) [] x = (tt, tt)
 blocks-few [] r (ls ∷ w) x = absurd x
@@ -117,7 +120,11 @@ blocks-few (k ∷ ks) r [] x = absurd x
 blocks-few (k ∷ ks) [] (ls ∷ w) x = (x, tt)
 blocks-few (k ∷ ks) (n ∷ r) (ls ∷ w) x = let c = blocks-few ks r w (x .2) in ((x .0, tt, c .0), (x .1, c .1))
 
-few-blocks : (ks : List (List String)) (r : Slices) (w : List (List (List ℤ))) → BlocksFit (blocksOf ks free) w → Few r w → BlocksFit (blocksOf ks r) w
+few-blocks :
+    (ks : List (List String)) (r : Slices) (w : List (List (List ℤ)))
+    → BlocksFit (blocksOf ks free) w
+    → Few r w
+    → BlocksFit (blocksOf ks r) w
 few-blocks [] r [] x h = tt
 few-blocks [] r (ls ∷ w) x h = absurd x
 few-blocks (k ∷ ks) r [] x h = absurd x

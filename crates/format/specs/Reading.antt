@@ -13,6 +13,7 @@ use lib.IntN.{ℤ}
 use lib.Seq.{drop-length}
 use Rattle.format.specs.Bytes.{startsLine}
 use Rattle.format.specs.Blocks.{one, any, upTo, Slices, free, blocks}
+use Rattle.format.specs.Decimal.{All}
 use Rattle.format.specs.Grammar.{File, kindsOf, fileText, Fits}
 use Rattle.format.specs.Machine.{Item, byte, end, lines, State, stuck, at, value, isStuck, step, final, endsBefore, start}
 use Rattle.format.specs.Language.{Begins, Place, Follows, Stands}
@@ -107,6 +108,10 @@ pub record Back (r : Slices) (t : List ℕ) (from number place : ℕ) : Type 0 w
 abbrev pub Says : (r : Slices) (t : List ℕ) (from : ℕ) → ReadingAnswer → Type 0
 Says r t from (accepted f next) = Read r t from f next
 Says r t from (refused number place) = Back r t from number place
+
+-- every slice takes at least so many lines
+abbrev pub AtLeast : ℕ → Slices → Type 0
+AtLeast n r = All (λ (k : ℕ). n ≤ k) r
 
 -- file after file is read to the text's end
 pub data ReadsOn (r : Slices) (t : List ℕ) : ℕ → Type 0 where

@@ -32,7 +32,7 @@ unfoldable pub readValue : List ℕ → Got ℤ
 readValue [] = record { got = pos 0; left = [] }
 readValue (b ∷ t) = cond (eqb b minus) (withSign true (readDigits 18 0 t)) (withSign false (readDigits 18 0 (b ∷ t)))
 
--- past a comma, past the end of a line, and past what follows a value that so many follow on its line
+-- past the end of a line; past what follows a value: a comma where more values follow on its line, else the line's end
 abbrev pub pastEnd : List ℕ → List ℕ
 pastEnd t = drop (length lineEnd) t
 

@@ -11,10 +11,9 @@ use borrow.Author.Needs.{needs}
 use borrow.Author.Tests.{lt-ltb}
 use Rattle.format.specs.Blocks.{Slices, free}
 use Rattle.format.specs.Machine.{start, judge, number, checkOf}
-use Rattle.format.specs.Reading.{scanAt}
+use Rattle.format.specs.Reading.{scanAt, AtLeast}
 use Rattle.format.specs.declared.Scanned.the-variants.{Whole, Faulty, Full}
 use Rattle.format.proofs.FileCheck.{check-within}
-use Rattle.format.proofs.FileByFile.{AtLeast}
 use Rattle.format.proofs.CheckPlace.{never-too-many, check-fault, check-forward, check-on, check-last}
 
 -- a place of such a text is a number of 64 bits with a sign

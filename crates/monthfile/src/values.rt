@@ -82,7 +82,7 @@ fn on(size: usize, at: usize, by: usize) -> usize
     if size - at < by { size } else { at + by }
 }
 
-// LeftAt the end of a line.
+// Past the end of a line.
 fn past_end(text: &[u8], at: usize) -> usize
     requires { ⌜ at ≤ length (now text) ⌝ }
     ensures { λ r. ⌜ LeftAt (now (text .entry)) (pastEnd (drop at (now (text .entry)))) r ⌝ }
@@ -90,7 +90,7 @@ fn past_end(text: &[u8], at: usize) -> usize
     on(text.len(), at, 1)
 }
 
-// LeftAt what stands after a value that so many follow on its line: a comma, or the line's end.
+// Past what stands after a value that so many follow on its line: a comma, or the line's end.
 fn past_value(text: &[u8], at: usize, left: usize) -> usize
     requires { ⌜ at ≤ length (now text) ⌝ }
     ensures { λ r. ⌜ LeftAt (now (text .entry)) (past left (drop at (now (text .entry)))) r ⌝ }
@@ -102,7 +102,7 @@ fn past_value(text: &[u8], at: usize, left: usize) -> usize
     }
 }
 
-// LeftAt a line of names.
+// Past a line of names.
 pub fn past_names(text: &[u8], at: usize, names: &[u8]) -> usize
     requires { ⌜ at ≤ length (now text) ⌝ }
     ensures { λ r. ⌜ LeftAt (now (text .entry)) (pastEnd (drop (length (now (names .entry))) (drop at (now (text .entry))))) r ⌝ }

@@ -5,7 +5,7 @@ use native.Mathlib.Omega.{arith}
 use borrow.Author.Needs.{needs}
 use lib.ListN.{length}
 use Rattle.format.specs.Blocks.{slices}
-use Rattle.format.proofs.FileByFile.{AtLeast}
+use Rattle.format.specs.Reading.{AtLeast}
 use Rattle.monthfile.specs.Passing.{Within}
 use Rattle.monthfile.proofs.Checking.{fits, Same, same-start, goes-on, forward, all-read, comes-back, no-room}
 use Rattle.monthfile.proofs.check.files.Statement.{statement}
