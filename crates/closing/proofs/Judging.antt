@@ -17,7 +17,8 @@ use Rattle.rules.specs.State.{State}
 use Rattle.rules.specs.Refusals.{badCounts, pointTest, countTests, stateTests, lineTests, sumTests, refusal}
 use Rattle.rules.specs.Calls.{stateOf, verdictOf}
 use Rattle.rules.proofs.Tests.{refused-not-accepted, then-accepted, then-assoc, when-then}
-use Rattle.rules.proofs.Passed.{Counts, counts}
+use Rattle.rules.proofs.Answers.{verdict-accepted}
+use Rattle.rules.proofs.Passed.{Counts, counts, slices-accepted, tested}
 use Rattle.charges.specs.declared.scan.Sums.{Sums}
 use Rattle.charges.specs.Scan.{scanned}
 use Rattle.charges.proofs.Scanned.{scan-law}
@@ -63,13 +64,18 @@ module _ {g : Ledger} {held : List ℤ} {line : MonthLine} (agents users : List 
   abbrev l : Lines
   l = monthLines line agents users points
 
+  -- an accepted closing may be weighed, by its verdict alone
+  pub accepted-weighable : refusal (stateOf g held) short l ≡ accepted → Weighable line (take (g .users) held) agents users s (stateOf g held) points
+  unfolding countTests
+  accepted-weighable e =
+      let room = slices-accepted (stateOf g held) short l e in
+      let t = tested (stateOf g held) short l e (length-take-le (g .users) held (b .long-held room)) in
+      let counted : verdictOf first ≡ accepted = b .verdict ∙ rw (t .counts) room in
+      record { tests = t; held-are = refl; sums = sums-are b (verdict-accepted first counted) }
+
   module _ (told : accepted ≡ (verdictOf first then stateTests (stateOf g held) line then lineTests l)) where
     first-passed : first ≡ Accepted
-    first-passed = go first (then-accepted (verdictOf first) _ (sym told) .0)
-      where
-        go : (a : Answer) → verdictOf a ≡ accepted → a ≡ Accepted
-        go Accepted e = refl
-        go (Refused n p) e = absurd (refused-not-accepted e)
+    first-passed = verdict-accepted first (then-accepted (verdictOf first) _ (sym told) .0)
 
     pub long-held : g .users ≤ length held
     long-held = held-reach b first-passed
