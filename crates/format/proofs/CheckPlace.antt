@@ -4,7 +4,7 @@ use Prim.Native.String.{String}
 use Prim.Native.Nat.{ℕ, zero, suc, _+_, _-_, _≤_, _<_, min}
 use mathlib.Core.Path.{_≡_, refl, ap, sym, _∙_, subst}
 use mathlib.Core.Logic.{_↔_, _⊎_, inl, inr, ⊎-elim}
-use mathlib.Core.Bool.{Bool, true, false, cond, _&&_}
+use mathlib.Core.Bool.{Bool, true, false, cond}
 use mathlib.Core.List.{List, [], _∷_, _++_, map}
 use native.Mathlib.Omega.{arith}
 use native.Mathlib.Decide.{decLe}
@@ -14,7 +14,7 @@ use lib.IntN.{pos, negsuc}
 use borrow.Author.Tests.{ne-eqb}
 use Rattle.format.specs.Bytes.{bytes}
 use Rattle.format.specs.Blocks.{one, any, upTo, month, kinds, Slices, free, blocksOf, blocks}
-use Rattle.format.specs.Grammar.{more, entries, line, File}
+use Rattle.format.specs.Grammar.{entries, line, File}
 use Rattle.format.specs.Machine.{Item, byte, end, lines, laidOut, State, stuck, at, value, isStuck, step, final, endsBefore, format, start}
 use Rattle.format.specs.Machine.{onward, TextVerdict, passes, fails, judge, number, checkOf}
 use Rattle.format.specs.Reading.{noRoom, tooMany, scan, scanAt, ReadingAnswer, accepted, refused, answer, reading, AtLeast, ReadsOn, last, then}

@@ -1,5 +1,4 @@
 // A block's lines read into the slice lent for them. Entries beyond the lines are left as they are.
-ghost use mathlib.Core.Path.{_≡_};
 ghost use Prim.Native.Nat.{_≤_};
 ghost use lib.ListN.{length};
 ghost use Rattle.format.specs.Blocks as Table;

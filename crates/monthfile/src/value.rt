@@ -2,7 +2,7 @@
 // Each byte is looked at once. Whole is the place after what was passed, Faulty the place of an 11.
 ghost use mathlib.Core.Path.{_≡_};
 ghost use Prim.Native.Nat.{ℕ, _≤_};
-ghost use lib.ListN.{length, drop};
+ghost use lib.ListN.{length};
 ghost use Rattle.format.specs.Bytes.{isDigit, isLead};
 ghost use Rattle.format.specs.Machine.{fresh, signed, nought, digits, value as inValue};
 ghost use Rattle.monthfile.specs.Passing.{Passes, DigitsEnd};

@@ -1,6 +1,5 @@
 -- Assumes nothing.
 use mathlib.Core.List.{_∷_}
-use native.Mathlib.Omega.{arith}
 use Rattle.format.specs.Blocks.{upTo}
 use Rattle.format.specs.Machine.{lines}
 use Rattle.monthfile.proofs.Joining.{told, before, joined, ended-faulty, ended-full}

@@ -1,8 +1,7 @@
 -- Each byte must be the names' next; after them comes the line's end. Assumes nothing.
 use Prim.Native.Nat.{_-_, _≤_}
-use mathlib.Core.Path.{_≡_, refl, sym, _∙_}
+use mathlib.Core.Path.{refl, _∙_}
 use native.Mathlib.Omega.{arith}
-use borrow.Author.Needs.{needs}
 use lib.ListN.{length, drop}
 use Rattle.monthfile.specs.Passing.{atNames}
 use Rattle.monthfile.proofs.Joining.{Comes, after, faulty}

@@ -1,5 +1,4 @@
 -- Assumes nothing.
-use Prim.Native.Nat.{_-_}
 use native.Mathlib.Omega.{arith}
 use Rattle.format.specs.Machine.{fresh}
 use Rattle.monthfile.proofs.Joining.{faulty, passed, after}
