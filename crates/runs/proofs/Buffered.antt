@@ -5,44 +5,44 @@ use native.Mathlib.Omega.{arith}
 use mathlib.Core.Path.{_≡_, refl, sym, ap, _∙_, subst}
 use mathlib.Core.List.{List}
 use lib.IntN.{ℤ}
-use lib.ListN.{length}
+use lib.ListN.{length, take}
+use lib.Seq.{length-take-le}
 use Rattle.format.specs.Blocks.{slices}
 use Rattle.format.specs.Grammar.{fits-slices}
-use Rattle.format.specs.Reading.{reading, Answer, accepted, refused, Says}
+use Rattle.format.specs.Reading.{reading, ReadingAnswer, accepted, refused, Says}
 use Rattle.format.proofs.Answers.{reads}
 use Rattle.format.proofs.FileByFile.{next-within}
 use Rattle.rules.specs.declared.Ledger.{Ledger}
-use Rattle.rules.specs.declared.Point.{Point}
-use Rattle.monthfile.specs.Reads.{answered, Reads}
+use Rattle.monthfile.specs.Reads.{asLines, answered, Reads}
 use Rattle.monthfile.specs.declared.reading.Header.{Header}
 use Rattle.monthfile.specs.declared.reading.Reading.{Reading}
 use Rattle.monthfile.specs.declared.reading.Reading.the-variants.{Accepted, Refused}
-use Rattle.runs.specs.Runs.{InputWithin, Counted, Begins, Buffers, Lies, GoesTo, GoesOn}
+use Rattle.runs.specs.Runs.{InputWithin, Counted, Begins, Buffers, Rows, Lies, GoesTo, GoesOn}
 use Rattle.runs.specs.declared.input.Input.{Input}
 use Rattle.runs.specs.declared.input.Input.the-variants.{Text}
-use Rattle.runs.specs.declared.begin.Begun.{Begun}
-use Rattle.runs.specs.declared.begin.Begun.the-variants.{File}
-use Rattle.runs.specs.declared.begin.Step.{Step}
-use Rattle.runs.specs.declared.begin.Step.the-variants.{Next, Over}
+use Rattle.runs.specs.declared.files.Begun.{Begun}
+use Rattle.runs.specs.declared.files.Begun.the-variants.{File}
+use Rattle.runs.specs.declared.files.Step.{Step}
+use Rattle.runs.specs.declared.files.Step.the-variants.{Next, Over}
 
 headerOr : Header → Reading → Header
 headerOr h (Accepted k) = k
 headerOr h (Refused n p) = h
 
-module _ (a u : ℕ) (t : List ℕ) (from : ℕ) (h : Header) where
-  counted : Accepted h ≡ answered (reading (slices a u 256) t from) → Counted a u from (length t) h
+module _ (a u p : ℕ) (t : List ℕ) (from : ℕ) (h : Header) where
+  counted : Accepted h ≡ answered (reading (slices a u p) t from) → Counted a u p from (length t) h
   unfolding headerOr
-  counted e = by (reading (slices a u 256) t from) refl (reads a u 256 t from) e
+  counted e = by (reading (slices a u p) t from) refl (reads (slices a u p) t from) e
     where
-      by : (y : Answer) → reading (slices a u 256) t from ≡ y → Says a u 256 t from y → Accepted h ≡ answered y → Counted a u from (length t) h
+      by : (y : ReadingAnswer) → reading (slices a u p) t from ≡ y → Says (slices a u p) t from y → Accepted h ≡ answered y → Counted a u p from (length t) h
       by (accepted f next) q s e =
           let k = ap (headerOr h) e in
-          let few = fits-slices a u 256 f .0 (s .fits) in
-          let on = next-within a u 256 t from next f q in
+          let few = fits-slices (slices a u p) f .0 (s .fits) .1 in
+          let on = next-within (slices a u p) t from next f q in
           record {
-            agents-in = omega (arith, ap (λ (h : Header). h .agents) k, few .fewAgents);
-            users-in = omega (arith, ap (λ (h : Header). h .users) k, few .fewUsers);
-            points-in = omega (arith, ap (λ (h : Header). h .points) k, few .fewPoints);
+            agents-in = omega (arith, ap (λ (h : Header). h .agents) k, few .0);
+            users-in = omega (arith, ap (λ (h : Header). h .users) k, few .1 .0);
+            points-in = omega (arith, ap (λ (h : Header). h .points) k, few .1 .1 .0);
             further = omega (arith, ap (λ (h : Header). h .next) k, on .0);
             within = omega (arith, ap (λ (h : Header). h .next) k, on .1);
           }
@@ -50,47 +50,85 @@ module _ (a u : ℕ) (t : List ℕ) (from : ℕ) (h : Header) where
 
 module _
     (t : List ℕ) (from : ℕ)
-    (ags us ags′ us′ : List (List ℤ)) (ps ps′ : List Point)
-    (r : Reading) (x : Reads t from ags us ps ags′ us′ ps′ r)
-    (h : Header) (e : r ≡ Accepted h) (n : length ps ≡ 256) where
-  pub file-counts : Counted (length ags) (length us) from (length t) h
-  file-counts =
-      counted (length ags) (length us) t from h
-      (subst (λ (k : ℕ). Accepted h ≡ answered (reading (slices (length ags) (length us) k) t from)) n (sym e ∙ x .answer))
+    (ags us ps ags′ us′ ps′ : List (List ℤ))
+    (r : Reading) (x : Reads asLines t from ags us ps ags′ us′ ps′ r)
+    (h : Header) (e : r ≡ Accepted h) where
+  pub file-counts : Counted (length ags) (length us) (length ps) from (length t) h
+  file-counts = counted (length ags) (length us) (length ps) t from h (sym e ∙ x .answer)
 
-pub begun-counts : {a u from most : ℕ} {h : Header} {l : Ledger} {b : Begun} → Begins a u from most b → b ≡ File h l → Counted a u from most h
-begun-counts {a} {u} {from} {most} g e = subst (Begins a u from most) e g
+pub begun-counts : {a u p from most : ℕ} {h : Header} {l : Ledger} {b : Begun} → Begins a u p from most b → b ≡ File h l → Counted a u p from most h
+begun-counts {a} {u} {p} {from} {most} g e = subst (Begins a u p from most) e g
 
 pub same-buffers :
-    {ags us ags′ us′ : List (List ℤ)} {held cells held′ cells′ : List ℤ}
-    → Buffers ags us held cells
+    {ags us ps ags′ us′ ps′ : List (List ℤ)} {held cells held′ cells′ : List ℤ}
+    → Buffers ags us ps held cells
     → length ags′ ≡ length ags
     → length us′ ≡ length us
+    → length ps′ ≡ length ps
     → length held′ ≡ length held
     → length cells′ ≡ length cells
-    → Buffers ags′ us′ held′ cells′
-same-buffers b e f g k = record { few-agents = rw e (b .few-agents); few-users = rw f (b .few-users); credits = rw (f, g) (b .credits); table = rw (e, f, k) (b .table) }
+    → Buffers ags′ us′ ps′ held′ cells′
+same-buffers b e f p g k =
+    record {
+      few-agents = rw e (b .few-agents);
+      few-users = rw f (b .few-users);
+      few-points = rw p (b .few-points);
+      credits = rw (f, g) (b .credits);
+      table = rw (e, f, k) (b .table);
+    }
 
 pub lies :
-    {a u from most : ℕ} {h : Header} {ags us : List (List ℤ)} {held cells : List ℤ}
-    → Counted a u from most h
-    → Buffers ags us held cells
+    {a u p from most : ℕ} {h : Header} {ags us ps : List (List ℤ)} {held cells : List ℤ}
+    → Counted a u p from most h
+    → Buffers ags us ps held cells
     → length ags ≡ a
     → length us ≡ u
-    → Lies h ags us held cells
-lies {h = h} {ags = ags} {us = us} c b e f =
+    → length ps ≡ p
+    → Lies h ags us ps held cells
+lies c b e f g =
+    record { room = b; agents-in = omega (arith, c .agents-in); users-in = omega (arith, c .users-in); points-in = omega (arith, c .points-in) }
+
+-- its own lines have the same room
+pub file-buffers :
+    {h : Header} {ags us ps : List (List ℤ)} {held cells : List ℤ}
+    → Lies h ags us ps held cells
+    → Buffers (take (h .agents) ags) (take (h .users) us) (take (h .points) ps) held cells
+file-buffers {h} {ags} {us} {ps} l =
+    let b = l .room in
+    let x = length-take-le (h .agents) ags (l .agents-in) in
+    let y = length-take-le (h .users) us (l .users-in) in
+    let i : h .agents + 1 ≤ length ags + 1 = omega (arith, l .agents-in) in
     record {
-      few-agents = omega (arith, c .agents-in, b .few-agents);
-      few-users = omega (arith, c .users-in, b .few-users);
-      agents-in = omega (arith, c .agents-in);
-      users-in = omega (arith, c .users-in);
-      points-in = c .points-in;
-      credits = omega (arith, c .users-in, b .credits);
-      table =
-          let i : h .agents + 1 ≤ length ags + 1 = omega (arith, c .agents-in) in
-          let j : h .users ≤ length us = omega (arith, c .users-in) in
-          omega (arith, mul-le-mul i j, b .table);
+      few-agents = omega (arith, x, l .agents-in, b .few-agents);
+      few-users = omega (arith, y, l .users-in, b .few-users);
+      few-points = omega (arith, length-take-le (h .points) ps (l .points-in), l .points-in, b .few-points);
+      credits = omega (arith, y, l .users-in, b .credits);
+      table = rw (x, y) (omega (arith, mul-le-mul i (l .users-in), b .table));
     }
+
+pub same-rows :
+    {agents : ℕ} {points point-rows user-rows payee-rows point-rows′ user-rows′ payee-rows′ : List (List ℤ)} {cells cells′ : List ℤ}
+    → Rows agents points point-rows user-rows payee-rows cells
+    → length point-rows′ ≡ length point-rows
+    → length user-rows′ ≡ length user-rows
+    → length payee-rows′ ≡ length payee-rows
+    → length cells′ ≡ length cells
+    → Rows agents points point-rows′ user-rows′ payee-rows′ cells′
+same-rows b p u y c = record { points-in = rw p (b .points-in); payees-in = rw y (b .payees-in); table = rw (u, c) (b .table) }
+
+-- the first rows of the buffers, one for each line
+pub first-rows :
+    (point-rows user-rows payee-rows : List (List ℤ)) {agents users points : List (List ℤ)} {held cells : List ℤ}
+    → Buffers agents users points held cells
+    → length point-rows ≡ 256
+    → length user-rows ≡ 64
+    → length payee-rows ≡ 17
+    → Rows (length agents) points (take (length points) point-rows) (take (length users) user-rows) (take (length agents + 1) payee-rows) cells
+first-rows point-rows user-rows payee-rows {agents} {users} {points} b p u y =
+    let x = length-take-le (length points) point-rows (omega (arith, b .few-points)) in
+    let z = length-take-le (length users) user-rows (omega (arith, b .few-users)) in
+    let w = length-take-le (length agents + 1) payee-rows (omega (arith, b .few-agents)) in
+    record { points-in = omega (arith, x); payees-in = omega (arith, w); table = rw z (b .table) }
 
 -- the run goes on after the file, which is further on
 pub goes-on : {from most next : ℕ} (s : Step) → GoesTo next s → from < next → next ≤ most → GoesOn from most s

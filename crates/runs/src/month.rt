@@ -1,125 +1,191 @@
-// One month, read, closed and stated with its points in an array of records. Only these three functions lend a slice of points.
-ghost use mathlib.Core.Path.{_≡_};
-ghost use mathlib.Core.List.{[]};
-ghost use Prim.Native.Nat.{_≤_, _<_};
-ghost use lib.ListN.{take};
-ghost use Rattle.rules.specs.Lines.{pointOf, monthLines};
-ghost use Rattle.rules.specs.Calls.{Closes};
-ghost use Rattle.monthfile.specs.Reads.{Reads};
-ghost use Rattle.statement.specs.Statement.{States};
-ghost use Rattle.runs.specs.Runs.{noPoints};
-use monthfile::reading::Reading;
+// One month closed, and what is printed of it. Each slice of lines has as many entries as the file has lines.
+ghost use lib.ListN.{length};
+ghost use Rattle.runs.specs.Runs.{Buffers, Rows};
+use crate::Print;
+use crate::amounts;
+use crate::lines;
+use crate::table;
 use rules::AgentLine;
+use rules::Answer;
 use rules::Ledger;
-use rules::Outcome;
-use rules::Point;
+use rules::MonthLine;
+use rules::PointLine;
 use rules::UserLine;
-use statement::Stated;
 
-// What reading answered, and the points that it wrote.
-pub struct Month {
-    pub reading: Reading,
-    pub points: [Point; 256],
+// What came of a month: whether all was written, and the ledger that holds from then on.
+pub struct Closing {
+    pub written: bool,
+    pub ledger: Ledger,
 }
 
-fn no_point() -> Point
-    ensures { λ r. ⌜ r ≡ pointOf [] ⌝ }
+// Closes the month, and prints its cells and the new held credits.
+fn close_table(
+    ledger: Ledger,
+    held: &mut [i64],
+    line: MonthLine,
+    agents: &[AgentLine],
+    users: &[UserLine],
+    points: &[PointLine],
+    cells: &mut [i64],
+    work: &mut [u64],
+    told: &[u8],
+) -> Closing
+    requires { ⌜ Buffers (now agents) (now users) (now points) (now held) (now cells) ⌝ }
 {
-    Point {
-        user: 0,
-        tp: 0,
-        tf: 0,
-        dp: 0,
-        df: 0,
-        mp: 0,
-        mf: 0,
-        vp: 0,
-        vf: 0,
+    let o = ledger::close_lines(ledger, held, line, agents, users, points, cells, work);
+    let answer = o.answer;
+    let written = match answer {
+        Answer::Accepted => {
+            table::month(line.month, agents.len(), users.len(), cells, held, told)
+        }
+        Answer::Refused(number, place) => lines::refused(number, place, told),
+    };
+    let after = o.ledger;
+    Closing {
+        written,
+        ledger: after,
     }
 }
 
-pub fn no_points() -> [Point; 256]
-    ensures { λ r. ⌜ r ≡ noPoints ⌝ }
+// What a closing answered: every amount of the month, or why it is refused.
+fn print_amounts(
+    answer: Answer,
+    month: i64,
+    points: &[PointLine],
+    point_rows: &[[i64; 2]],
+    user_rows: &[[i64; 9]],
+    payee_rows: &[[i64; 5]],
+    agents: usize,
+    balance: i64,
+    cells: &[i64],
+    told: &[u8],
+) -> bool
+    requires { ⌜ Rows agents (now points) (now «point_rows») (now «user_rows») (now «payee_rows») (now cells) ⌝ }
 {
-    [no_point(); 256]
+    match answer {
+        Answer::Refused(number, place) => lines::refused(number, place, told),
+        Answer::Accepted => {
+            let ons = payee_rows[agents];
+            amounts::month(
+                month,
+                points,
+                point_rows,
+                user_rows,
+                &payee_rows[..agents],
+                ons[4],
+                balance,
+                cells,
+                told,
+            )
+        }
+    }
 }
 
-// Reads the file at a place: what was answered, with its points.
-pub fn read(text: &[u8], at: usize, agents: &mut [AgentLine], users: &mut [UserLine]) -> Month
-    ensures { λ r. ⌜ Reads (now (text .entry)) at (now (agents .entry)) (now (users .entry)) noPoints (now (agents .exit)) (now (users .exit)) (r .points) (r .reading) ⌝ }
-{
-    let mut points = no_points();
-    let reading = monthfile::points::read_at(text, at, agents, users, &mut points);
-    Month { reading, points }
-}
-
-// Closes a month with the first n of the points that were read.
-pub fn close(
+// States the month with the credits held before it, closes it, and prints every amount; the closing's answer decides. There is a row for
+// each point, each user and each payee.
+fn state_and_close(
     ledger: Ledger,
     held: &mut [i64],
-    month: i64,
-    ons: i64,
+    line: MonthLine,
     agents: &[AgentLine],
     users: &[UserLine],
-    m: Month,
-    n: usize,
-    cells: &mut [i64],
-    work: &mut [u64],
-) -> Outcome
-    requires { ⌜ n ≤ 256 ⌝ }
-    ensures { λ r. ⌜ Closes ledger (now (held .entry)) (monthLines month ons (now (agents .entry)) (now (users .entry)) (take n (m .points))) (now (cells .entry)) (now (work .entry)) r (now (held .exit)) (now (cells .exit)) (now (work .exit)) ⌝ }
-{
-    let points = m.points;
-    ledger::close(
-        ledger,
-        held,
-        month,
-        ons,
-        agents,
-        users,
-        &points[..n],
-        cells,
-        work,
-    )
-}
-
-// States a month with the first n of the points that were read.
-pub fn state(
-    ledger: Ledger,
-    held: &[i64],
-    month: i64,
-    ons: i64,
-    agents: &[AgentLine],
-    users: &[UserLine],
-    m: Month,
-    n: usize,
+    points: &[PointLine],
     point_rows: &mut [[i64; 2]],
     user_rows: &mut [[i64; 9]],
     payee_rows: &mut [[i64; 5]],
-) -> Stated
-    requires { ⌜ n ≤ 256 ⌝ }
-    ensures { λ r. ⌜ States ledger (now (held .entry)) (monthLines month ons (now (agents .entry)) (now (users .entry)) (take n (m .points))) (now («point_rows» .entry)) (now («user_rows» .entry)) (now («payee_rows» .entry)) r (now («point_rows» .exit)) (now («user_rows» .exit)) (now («payee_rows» .exit)) ⌝ }
+    cells: &mut [i64],
+    work: &mut [u64],
+    told: &[u8],
+) -> Closing
+    requires { ⌜ Rows (length (now agents)) (now points) (now «point_rows») (now «user_rows») (now «payee_rows») (now cells) ⌝ }
 {
-    let points = m.points;
-    statement::state(
+    let s = statement::state_lines(
         ledger,
         held,
-        month,
-        ons,
+        line,
         agents,
         users,
-        &points[..n],
+        points,
         point_rows,
         user_rows,
         payee_rows,
+    );
+    let o = ledger::close_lines(ledger, held, line, agents, users, points, cells, work);
+    let answer = o.answer;
+    let written = print_amounts(
+        answer,
+        line.month,
+        points,
+        point_rows,
+        user_rows,
+        payee_rows,
+        agents.len(),
+        s.smse,
+        cells,
+        told,
+    );
+    let after = o.ledger;
+    Closing {
+        written,
+        ledger: after,
+    }
+}
+
+// With room for the rows of 256 points, 64 users and 17 payees.
+fn close_amounts(
+    ledger: Ledger,
+    held: &mut [i64],
+    line: MonthLine,
+    agents: &[AgentLine],
+    users: &[UserLine],
+    points: &[PointLine],
+    cells: &mut [i64],
+    work: &mut [u64],
+    told: &[u8],
+) -> Closing
+    requires { ⌜ Buffers (now agents) (now users) (now points) (now held) (now cells) ⌝ }
+{
+    let p = points.len();
+    let u = users.len();
+    let m = agents.len() + 1;
+    let mut point_rows = [[0i64; 2]; 256];
+    let mut user_rows = [[0i64; 9]; 64];
+    let mut payee_rows = [[0i64; 5]; 17];
+    state_and_close(
+        ledger,
+        held,
+        line,
+        agents,
+        users,
+        points,
+        &mut point_rows[..p],
+        &mut user_rows[..u],
+        &mut payee_rows[..m],
+        cells,
+        work,
+        told,
     )
 }
 
-// The user of the point at i, counted from 0.
-pub fn user_at(m: Month, i: usize) -> i64
-    requires { ⌜ i < 256 ⌝ }
+// Closes a month and prints of it what is asked for.
+pub fn close(
+    print: Print,
+    ledger: Ledger,
+    held: &mut [i64],
+    line: MonthLine,
+    agents: &[AgentLine],
+    users: &[UserLine],
+    points: &[PointLine],
+    cells: &mut [i64],
+    work: &mut [u64],
+    told: &[u8],
+) -> Closing
+    requires { ⌜ Buffers (now agents) (now users) (now points) (now held) (now cells) ⌝ }
 {
-    let points = m.points;
-    let p = points[i];
-    p.user
+    match print {
+        Print::Table => close_table(ledger, held, line, agents, users, points, cells, work, told),
+        Print::Amounts => {
+            close_amounts(ledger, held, line, agents, users, points, cells, work, told)
+        }
+    }
 }

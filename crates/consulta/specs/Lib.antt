@@ -1,2 +1,0 @@
--- `Rooms` is where the rows of a month lie. What is printed is tested and not proved.
-pub mod Rooms

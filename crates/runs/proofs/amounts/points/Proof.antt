@@ -1,0 +1,40 @@
+-- The loop goes through the rows.
+use Prim.Native.Nat.{_-_, _≤_}
+use mathlib.Core.Path.{_≡_}
+use lib.ListN.{length}
+use borrow.Author.Needs.{needs}
+use Rattle.runs.proofs.amounts.points.Statement.{statement}
+use Rattle.runs.proofs.amounts.points.Tie as tie
+
+abbrev Inv-loop : tie.InvT-loop
+Inv-loop month points rows told n i₀ t11 t12 i = (n ≡ length rows) × (i ≤ n)
+
+abbrev μ-loop : tie.MeasureT-loop
+μ-loop month points rows told n i₀ t11 t12 i = n - i
+
+pub points-spec : {M : Type 1} → statement M
+points-spec =
+    tie.close
+    (tie.spec
+    Inv-loop
+    μ-loop
+    (λ c. search needs)
+    (λ c. search needs)
+    (λ c. search needs)
+    (λ c. search needs)
+    (λ c. search needs)
+    (λ c. search needs)
+    (λ c κs. search needs)
+    (λ c. search needs)
+    (λ c. search needs)
+    (λ c. search needs)
+    (λ c κs. search needs)
+    (λ c. search needs)
+    (λ c. search needs)
+    (λ c. search needs)
+    (λ c κs. search needs)
+    (λ c. search needs)
+    (λ c. search needs)
+    (λ c. search needs)
+    (λ c. search needs)
+    (λ c. search needs))

@@ -1,0 +1,33 @@
+-- What the file has lies in the buffers.
+use mathlib.Core.Path.{sym}
+use borrow.Author.Needs.{needs}
+use lib.Seq.{length-take-le}
+use Rattle.runs.proofs.Buffered.{file-buffers}
+use Rattle.runs.proofs.files.close_file.Statement.{statement}
+use Rattle.runs.proofs.files.close_file.Tie as tie
+
+slice-aggregate-close : tie.Need-slice-aggregate-close
+slice-aggregate-close c = sym (length-take-le _ _ (search needs))
+
+slice-aggregate-close-2 : tie.Need-slice-aggregate-close-2
+slice-aggregate-close-2 c = sym (length-take-le _ _ (search needs))
+
+slice-aggregate-close-3 : tie.Need-slice-aggregate-close-3
+slice-aggregate-close-3 c = sym (length-take-le _ _ (search needs))
+
+close-requires : tie.Need-close-requires
+close-requires c κs = file-buffers (c .before .before .before .before .before .before .before .before .before .pre)
+
+pub close-file-spec : {M : Type 1} → statement M
+close-file-spec =
+    tie.close
+    (tie.spec
+    slice-aggregate-close
+    slice-aggregate-close-2
+    slice-aggregate-close-3
+    close-requires
+    (λ c κs. search needs)
+    (λ c. search needs)
+    (λ c. search needs)
+    (λ c. search needs)
+    (λ c. search needs))

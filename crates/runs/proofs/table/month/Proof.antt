@@ -1,0 +1,66 @@
+-- The row of an agent begins after as many rows as there are agents before it, that of ONS after all of them.
+use Prim.Native.Nat.{_+_, _-_, _*_, _≤_}
+use native.Mathlib.Nat.{mul-le-mul-right}
+use native.Mathlib.Omega.{arith}
+use mathlib.Core.Path.{sym}
+use borrow.Author.Needs.{needs}
+use lib.ListN.{length}
+use lib.Seq.{length-take-le}
+use Rattle.runs.proofs.table.month.Statement.{statement}
+use Rattle.runs.proofs.table.month.Tie as tie
+
+abbrev Inv-loop : tie.InvT-loop
+Inv-loop month agents users cells held told i₀ i = i ≤ agents
+
+abbrev μ-loop : tie.MeasureT-loop
+μ-loop month agents users cells held told i₀ i = agents - i
+
+-- an agent's row lies in the table
+inside : (c : tie.In-loop Inv-loop μ-loop) → c .before .loop .i * c .before .before .before .args .users + c .before .before .before .args .users ≤ length (c .before .before .before .args .cells .now)
+inside c = omega (arith, mul-le-mul-right (c .before .before .before .args .users) (c .loop-test .taken))
+
+mul-from : tie.Need-mul-from Inv-loop μ-loop
+mul-from c = omega (arith, inside c)
+
+add-to : tie.Need-add-to Inv-loop μ-loop
+add-to c = omega (arith, inside c)
+
+mul-row : tie.Need-mul-row Inv-loop μ-loop
+mul-row c = omega (arith, inside c)
+
+part-row-end : tie.Need-part-row-end Inv-loop μ-loop
+part-row-end c = omega (arith, inside c)
+
+slice-aggregate-row : tie.Need-slice-aggregate-row Inv-loop μ-loop
+slice-aggregate-row c = sym (length-take-le _ _ (search needs))
+
+pub month-spec : {M : Type 1} → statement M
+month-spec =
+    tie.close
+    (tie.spec
+    Inv-loop
+    μ-loop
+    (λ c. search needs)
+    mul-from
+    add-to
+    (λ c. search needs)
+    mul-row
+    (λ c. search needs)
+    (λ c. search needs)
+    part-row-end
+    (λ c κs. search needs)
+    (λ c. search needs)
+    (λ c. search needs)
+    (λ c. search needs)
+    (λ c. search needs)
+    (λ c. search needs)
+    (λ c. search needs)
+    (λ c. search needs)
+    (λ c. search needs)
+    (λ c. search needs)
+    (λ c. search needs)
+    (λ c κs. search needs)
+    (λ c. search needs)
+    slice-aggregate-row
+    (λ c κs. search needs)
+    (λ c. search needs))
