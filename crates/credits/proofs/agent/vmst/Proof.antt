@@ -35,15 +35,6 @@ module _ {x y : ℤ} (a : Amount x) (b : Amount y) where
       net : back (back (back (back x -ℤ back y) +ℤ back z) -ℤ back w) ≡ x -ℤ y +ℤ z -ℤ w
       net = rw (toZ-ofZ four, toZ-ofZ three, toZ-ofZ two, toZ-ofZ (one a), toZ-ofZ (one b), toZ-ofZ (one c), toZ-ofZ (one d))
 
-sub-result : tie.Need-sub-result
-sub-result c = search two
-
-add-result : tie.Need-add-result
-add-result c = search three
-
-sub-result-2 : tie.Need-sub-result-2
-sub-result-2 c = search four
-
 returns : tie.Need-returns
 unfolding VMST
 returns c = let p = c .before .before .before .before .pre in net (p .pb) (p .pv) (p .afs) (p .rfs)
@@ -54,9 +45,9 @@ vmst-spec =
     (tie.spec
     (λ c. search needs)
     (λ c. search needs)
-    sub-result
+    (λ c. search two)
     (λ c. search needs)
-    add-result
+    (λ c. search three)
     (λ c. search needs)
-    sub-result-2
+    (λ c. search four)
     returns)

@@ -31,9 +31,6 @@ long c =
 loop-holds : tie.Need-loop-holds Inv-loop μ-loop
 loop-holds c = filling-none _ _
 
-slice-copy-out-out : tie.Need-slice-copy-out-out Inv-loop μ-loop
-slice-copy-out-out c = long c
-
 module _ (c : tie.After-out2 Inv-loop μ-loop) where
   abbrev s : tie.Start Inv-loop μ-loop
   s = c .before .before .before .before
@@ -86,7 +83,7 @@ add-each-spec =
     μ-loop
     loop-holds
     (λ c. search needs)
-    slice-copy-out-out
+    (λ c. long c)
     (λ c. search needs)
     (λ c. search needs)
     add-out

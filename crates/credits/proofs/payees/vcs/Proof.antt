@@ -18,9 +18,6 @@ use Rattle.credits.proofs.payees.vcs.Tie as tie
 few : (s : tie.Start) → length (s .args .agents .now) ≤ 256
 few s = rw length-map at (s .pre .0 .lines .few)
 
-array-borrow-prefix-pb : tie.Need-array-borrow-prefix-pb
-array-borrow-prefix-pb c = few c
-
 slice-aggregate-agent-credits : tie.Need-slice-aggregate-agent-credits
 slice-aggregate-agent-credits c = sym (length-take-le _ _ (few (c .before)))
 
@@ -57,7 +54,7 @@ pub vcs-spec : {M : Type 1} → statement M
 vcs-spec =
     tie.close
     (tie.spec
-    array-borrow-prefix-pb
+    (λ c. few c)
     slice-aggregate-agent-credits
     array-borrow-prefix-vmant
     slice-aggregate-agent-credits-2

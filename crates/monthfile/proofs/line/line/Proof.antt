@@ -19,9 +19,6 @@ abbrev μ-loop : tie.MeasureT-loop
 loop-holds : tie.Need-loop-holds Inv-loop μ-loop
 loop-holds c = (omega arith, (omega arith, λ f. refl))
 
-entry-requires : tie.Need-entry-requires Inv-loop μ-loop
-entry-requires c κs = omega arith
-
 returns : tie.Need-returns Inv-loop μ-loop
 returns c =
     let at = c .before .before .before .before .before .loop in
@@ -34,21 +31,12 @@ returns-2 c =
     after _ _ _ _ _ _ (omega arith) (λ f. at .inv .1 .1 f ∙ one-more _ _ (at .left) (omega arith) f)
     (ended-full _ _ _ _ _ _ (c .before .p2 .given .1) (c .before .before .before .entry .ensures (at .left - 1)))
 
-sub-left : tie.Need-sub-left Inv-loop μ-loop
-sub-left c = omega arith
-
-loop-less : tie.Need-loop-less Inv-loop μ-loop
-loop-less c = omega arith
-
 loop-again : tie.Need-loop-again Inv-loop μ-loop
 loop-again c =
     let at = c .before .before .before .before .before .loop in
     let e = told _ _ _ _ (c .before .n .given .1) (c .before .before .before .entry .ensures (at .left - 1)) in
     let w = e .within in
     (omega arith, (omega arith, λ f. at .inv .1 .1 f ∙ one-more _ _ (at .left) (omega arith) f ∙ e .goes f))
-
-last-requires : tie.Need-last-requires Inv-loop μ-loop
-last-requires c κs = omega arith
 
 returns-3 : tie.Need-returns-3 Inv-loop μ-loop
 returns-3 c =
@@ -62,14 +50,14 @@ line-spec =
     Inv-loop
     μ-loop
     loop-holds
-    entry-requires
+    (λ c κs. omega arith)
     (λ c. search needs)
     (λ c. search needs)
     returns
     (λ c. search needs)
     returns-2
-    sub-left
-    loop-less
+    (λ c. omega arith)
+    (λ c. omega arith)
     loop-again
-    last-requires
+    (λ c κs. omega arith)
     returns-3)

@@ -25,17 +25,11 @@ abbrev μ-loop : tie.MeasureT-loop
 loop-holds : tie.Need-loop-holds Inv-loop μ-loop
 loop-holds c = (omega arith, (omega arith, λ f. refl))
 
-line-here-requires : tie.Need-line-here-requires Inv-loop μ-loop
-line-here-requires c κs = omega arith
-
 returns : tie.Need-returns Inv-loop μ-loop
 returns c =
     let at = c .before .before .before in
     after _ _ _ _ _ _ (omega arith) (at .loop .inv .1 .1)
     (full _ _ _ _ (omega arith) (λ f. line-full _ _ _ f (sym (c .before .before .line-here .ensures) ∙ c .before .if1 .taken) _ (c .if2 .taken)))
-
-line-requires : tie.Need-line-requires Inv-loop μ-loop
-line-requires c κs = omega arith
 
 returns-2 : tie.Need-returns-2 Inv-loop μ-loop
 returns-2 c =
@@ -50,12 +44,6 @@ returns-3 c =
     let l = sym (c .before .before .before .before .before .before .line-here .ensures) ∙ c .before .before .before .before .before .if1 .taken in
     after _ _ _ _ _ _ (omega arith) (λ f. at .inv .1 .1 f ∙ line-on _ _ _ f l _ (omega arith))
     (ended-full _ _ _ _ _ _ (c .before .p2 .given .1) (before _ _ _ _ (one-less (at .left) _) (c .before .before .before .line .ensures)))
-
-sub-left : tie.Need-sub-left Inv-loop μ-loop
-sub-left c = omega arith
-
-loop-less : tie.Need-loop-less Inv-loop μ-loop
-loop-less c = omega arith
 
 loop-again : tie.Need-loop-again Inv-loop μ-loop
 loop-again c =
@@ -78,15 +66,15 @@ lines-spec =
     Inv-loop
     μ-loop
     loop-holds
-    line-here-requires
+    (λ c κs. omega arith)
     returns
-    line-requires
+    (λ c κs. omega arith)
     (λ c. search needs)
     (λ c. search needs)
     returns-2
     (λ c. search needs)
     returns-3
-    sub-left
-    loop-less
+    (λ c. omega arith)
+    (λ c. omega arith)
     loop-again
     returns-4)

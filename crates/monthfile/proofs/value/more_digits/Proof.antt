@@ -17,15 +17,6 @@ abbrev μ-loop : tie.MeasureT-loop
 loop-holds : tie.Need-loop-holds Inv-loop μ-loop
 loop-holds c = (omega arith, (omega arith, behind-none _ _))
 
-shared-slice-read-is-digit : tie.Need-shared-slice-read-is-digit Inv-loop μ-loop
-shared-slice-read-is-digit c = omega arith
-
-add-at : tie.Need-add-at Inv-loop μ-loop
-add-at c = omega arith
-
-loop-less : tie.Need-loop-less Inv-loop μ-loop
-loop-less c = omega arith
-
 loop-again : tie.Need-loop-again Inv-loop μ-loop
 loop-again c =
     let at = c .before .before .before .before in (
@@ -58,10 +49,10 @@ more-digits-spec =
     μ-loop
     (λ c κs. search needs)
     loop-holds
-    shared-slice-read-is-digit
+    (λ c. omega arith)
     (λ c κs. search needs)
-    add-at
-    loop-less
+    (λ c. omega arith)
+    (λ c. omega arith)
     loop-again
     returns
     returns-2)

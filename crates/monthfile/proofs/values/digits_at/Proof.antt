@@ -27,9 +27,6 @@ returns c =
       small = below-all (l .k) (l .number) (l .inv .0) (l .inv .1 .0);
     }
 
-shared-slice-read-wide : tie.Need-shared-slice-read-wide Inv-loop μ-loop
-shared-slice-read-wide c = omega arith
-
 mul-number : tie.Need-mul-number Inv-loop μ-loop
 mul-number c =
     let l = c .before .before .before .before .before .before .loop in
@@ -45,15 +42,6 @@ add-number c =
     let d = is-digit (c .before .before .wide .result) .0 (sym (c .before .is-digit .ensures) ∙ c .if2 .taken) in
     let b = below-all (l .k) (l .number) (l .inv .0) (l .inv .1 .0) in
     omega (arith, d .low, d .high)
-
-add-i : tie.Need-add-i Inv-loop μ-loop
-add-i c = omega arith
-
-add-k : tie.Need-add-k Inv-loop μ-loop
-add-k c = omega arith
-
-loop-less : tie.Need-loop-less Inv-loop μ-loop
-loop-less c = omega arith
 
 loop-again : tie.Need-loop-again Inv-loop μ-loop
 loop-again c =
@@ -94,15 +82,15 @@ digits-at-spec =
     μ-loop
     loop-holds
     returns
-    shared-slice-read-wide
+    (λ c. omega arith)
     (λ c κs. search needs)
     (λ c κs. search needs)
     mul-number
     sub-number
     add-number
-    add-i
-    add-k
-    loop-less
+    (λ c. omega arith)
+    (λ c. omega arith)
+    (λ c. omega arith)
     loop-again
     returns-2
     returns-3)

@@ -21,24 +21,6 @@ abbrev μ-loop : tie.MeasureT-loop
 loop-holds : tie.Need-loop-holds Inv-loop μ-loop
 loop-holds c = ((refl, omega arith), (omega arith, (refl, row-none _ _ _)))
 
-value-at-requires : tie.Need-value-at-requires Inv-loop μ-loop
-value-at-requires c κs = omega arith
-
-mul-x : tie.Need-mul-x Inv-loop μ-loop
-mul-x c = omega arith
-
-slice-set-from-x : tie.Need-slice-set-from-x Inv-loop μ-loop
-slice-set-from-x c = omega arith
-
-add-k : tie.Need-add-k Inv-loop μ-loop
-add-k c = omega arith
-
-past-value-requires : tie.Need-past-value-requires Inv-loop μ-loop
-past-value-requires c κs = c .before .value-at .ensures .within
-
-loop-less : tie.Need-loop-less Inv-loop μ-loop
-loop-less c = omega arith
-
 loop-again : tie.Need-loop-again Inv-loop μ-loop
 loop-again c =
     let v = c .before .before .value-at in
@@ -48,9 +30,6 @@ loop-again c =
     row-more _ _ _ _ _ _ (c .before .before .before .before .loop .inv .1 .1 .1) (toZ w64 (ofZ w64 (v .result .value))) (v .result .next) _ _ turn (omega arith)
     (rw (toZ-ofZ f) (v .ensures)) (c .past-value .ensures) in
     ((turn, omega arith), (c .past-value .ensures .within, (row-length _ _ _ _ _ _ r (omega arith), r)))
-
-same-length : tie.Need-same-length Inv-loop μ-loop
-same-length c = c .before .loop .inv .1 .1 .0
 
 returns : tie.Need-returns Inv-loop μ-loop
 returns c = row-all _ _ _ _ _ _ (c .before .loop .inv .1 .1 .1) (omega arith) (omega arith)
@@ -62,13 +41,13 @@ line-at-spec =
     Inv-loop
     μ-loop
     loop-holds
-    value-at-requires
-    mul-x
-    slice-set-from-x
-    add-k
+    (λ c κs. omega arith)
     (λ c. omega arith)
-    past-value-requires
-    loop-less
+    (λ c. omega arith)
+    (λ c. omega arith)
+    (λ c. omega arith)
+    (λ c κs. c .before .value-at .ensures .within)
+    (λ c. omega arith)
     loop-again
-    same-length
+    (λ c. c .before .loop .inv .1 .1 .0)
     returns)
