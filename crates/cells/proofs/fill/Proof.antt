@@ -8,9 +8,6 @@ use borrow.Author.Needs.{needs}
 use Rattle.cells.proofs.fill.Statement.{statement}
 use Rattle.cells.proofs.fill.Tie as tie
 
-slice-aggregate-lay : tie.Need-slice-aggregate-lay
-slice-aggregate-lay c = simp length-take (omega arith)
-
 slice-aggregate-lay-2 : tie.Need-slice-aggregate-lay-2
 slice-aggregate-lay-2 c = let s = c .before .before .before .before in sym (part-long 512 (length (s .args .vd .now)) (s .pre .0 .users))
 
@@ -54,7 +51,7 @@ fill-spec =
     (tie.spec
     (λ c. search needs)
     (λ c. search needs)
-    slice-aggregate-lay
+    (λ c. simp length-take (omega arith))
     (λ c. search needs)
     slice-aggregate-lay-2
     (λ c. search needs)

@@ -23,9 +23,6 @@ abbrev μ-loop : tie.MeasureT-loop
 words : (c : tie.In-loop Inv-loop μ-loop) → SFits w64 (getD (c .before .loop .cells) (c .before .loop .i) (pos 0) +ℤ pos (getD (c .before .before .before .args .marks .now) (c .before .loop .i) 0 - 1)) × SFits w64 (getD (c .before .loop .cells) (c .before .loop .i) (pos 0))
 words c = post-fits (c .before .before .before .pre) (c .before .loop .inv .1) (c .loop-test .taken)
 
-loop-holds : tie.Need-loop-holds Inv-loop μ-loop
-loop-holds c = (omega arith, filled-none (pos 0) 0 _ _)
-
 cent-requires : tie.Need-cent-requires Inv-loop μ-loop
 cent-requires c κs = c .before .before .before .before .pre .marked (c .before .before .loop .i)
 
@@ -72,7 +69,7 @@ post-spec =
     (tie.spec
     Inv-loop
     μ-loop
-    loop-holds
+    (λ c. (omega arith, filled-none (pos 0) 0 _ _))
     (λ c. omega (arith, c .before .before .before .good))
     (λ c. omega (arith, c .before .before .before .before .pre .long))
     cent-requires

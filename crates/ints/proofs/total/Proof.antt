@@ -17,9 +17,6 @@ Inv-loop amounts sum₀ i₀ sum i = Added amounts (toZ w64 sum) i
 abbrev μ-loop : tie.MeasureT-loop
 μ-loop amounts sum₀ i₀ sum i = length amounts - i
 
-loop-holds : tie.Need-loop-holds Inv-loop μ-loop
-loop-holds c = added-none _
-
 entry-fits : (c : tie.After-sum Inv-loop μ-loop) → SFits w64 (getD (c .before .before .before .args .amounts .now) (c .before .before .loop .i) (pos 0))
 entry-fits c = search needs
 
@@ -27,16 +24,10 @@ sum-fits : (c : tie.After-sum Inv-loop μ-loop) → SFits w64 (toZ w64 (c .befor
 sum-fits c =
     added-fits (c .before .before .loop .inv) (c .before .before .before .pre) (c .before .loop-test .taken) refl
 
-add-sum : tie.Need-add-sum Inv-loop μ-loop
-add-sum c = rw (toZ-ofZ (entry-fits c)) (sum-fits c)
-
 loop-again : tie.Need-loop-again Inv-loop μ-loop
 loop-again c =
     rw (toZ-ofZ (entry-fits c), toZ-ofZ (sum-fits c))
     (added-more (c .before .before .loop .inv) (c .before .loop-test .taken) refl)
-
-returns : tie.Need-returns Inv-loop μ-loop
-returns c = added-all (c .before .loop .inv) (c .loop-test .left)
 
 pub total-spec : {M : Type 1} → statement M
 total-spec =
@@ -44,11 +35,11 @@ total-spec =
     (tie.spec
     Inv-loop
     μ-loop
-    loop-holds
+    (λ c. added-none _)
     (λ c. search needs)
     (λ c. search needs)
-    add-sum
+    (λ c. rw (toZ-ofZ (entry-fits c)) (sum-fits c))
     (λ c. search needs)
     (λ c. search needs)
     loop-again
-    returns)
+    (λ c. added-all (c .before .loop .inv) (c .loop-test .left)))

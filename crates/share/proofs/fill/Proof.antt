@@ -109,9 +109,6 @@ cast-w c = simp (toZ-ofZ, c .fits .total) (cast (c .args .total) (c .pre))
     cast : {P : ℤ} {ws old : List ℤ} (W : ℤ) → Fillable P W ws old → T (nonNeg W) × Fits w64 (natAbs W)
     cast W f = omega (za, above# (f .some), f .most)
 
-loop-holds : tie.Need-loop-holds Inv-loop μ-loop
-loop-holds c = start (asks c)
-
 weight-fits : (c : tie.After-through Inv-loop μ-loop) → SFits w64 (getD (c .before .before .before .args .weights .now) (c .before .before .loop .i) (pos 0))
 weight-fits c = search needs
 
@@ -121,9 +118,6 @@ module _ (c : tie.After-through Inv-loop μ-loop) where
 
   sum-fits : SFits w64 (toZ w64 (c .before .before .loop .through) +ℤ getD (s .args .weights .now) (c .before .before .loop .i) (pos 0))
   sum-fits = next-fits (asks s) (c .before .before .loop .inv) (c .before .loop-test .taken)
-
-add-through : tie.Need-add-through Inv-loop μ-loop
-add-through c = simp (toZ-ofZ, weight-fits c) (sum-fits c)
 
 cast-floor-of : tie.Need-cast-floor-of Inv-loop μ-loop
 cast-floor-of c = simp (toZ-ofZ, weight-fits c, sum-fits c) (next-cast (asks (s c)) (c .before .before .loop .inv) (c .before .loop-test .taken))
@@ -142,9 +136,6 @@ result-fits c = search needs
 part-fits : (c : tie.After-floor-of Inv-loop μ-loop) → SFits w64 (c .floor-of .result -ℤ toZ w64 (c .before .before .before .loop .lower))
 part-fits c = value-fits (asks (s (c .before))) (c .before .before .before .loop .inv) (c .before .before .loop-test .taken) (result-is c)
 
-sub-parts : tie.Need-sub-parts Inv-loop μ-loop
-sub-parts c = rw (toZ-ofZ (result-fits c)) (part-fits c)
-
 slice-set-from-parts : tie.Need-slice-set-from-parts Inv-loop μ-loop
 slice-set-from-parts c = omega (arith, written (asks (s (c .before))) (c .before .before .before .loop .inv), asks (s (c .before)) .long)
 
@@ -152,9 +143,6 @@ loop-again : tie.Need-loop-again Inv-loop μ-loop
 loop-again c =
     rw (toZ-ofZ (weight-fits (c .before)), toZ-ofZ (sum-fits (c .before)), toZ-ofZ (result-fits c), toZ-ofZ (part-fits c))
     (turn (asks (s (c .before))) (c .before .before .before .loop .inv) (c .before .before .loop-test .taken) (result-is c))
-
-same-length : tie.Need-same-length Inv-loop μ-loop
-same-length c = written (asks (c .before .before)) (c .before .loop .inv)
 
 returns : tie.Need-returns Inv-loop μ-loop
 returns c =
@@ -169,17 +157,17 @@ fill-spec =
     Inv-loop
     μ-loop
     cast-w
-    loop-holds
+    (λ c. start (asks c))
     (λ c. omega arith)
     (λ c. omega arith)
-    add-through
+    (λ c. simp (toZ-ofZ, weight-fits c) (sum-fits c))
     cast-floor-of
     floor-of-requires
-    sub-parts
+    (λ c. rw (toZ-ofZ (result-fits c)) (part-fits c))
     (λ c. omega arith)
     slice-set-from-parts
     (λ c. omega arith)
     (λ c. omega arith)
     loop-again
-    same-length
+    (λ c. written (asks (c .before .before)) (c .before .loop .inv))
     returns)

@@ -75,12 +75,6 @@ below-zero c =
 not-below : (c : tie.Else1) → dn (c .before .before .before .before .args .p) ≡ 0
 not-below c = omega (za, back# (c .before .before .before .before .fits .p))
 
-scaled-requires : tie.Need-scaled-requires
-scaled-requires c κs = (c .before .pre .1, c .before .pre .2)
-
-cast-up : tie.Need-cast-up
-cast-up c = omega (za, up-small c)
-
 sub-result : tie.Need-sub-result
 sub-result c =
     let l = up-small (c .before) in
@@ -94,9 +88,6 @@ returns c =
     let k = known (r .before) in
     simp (word _ l, toZ-ofZ, minus _ l)
     (rw (r .raised .ensures) (below (s .args .p) (s .args .t) (s .args .w) _ (r .before .scaled .result .rem) (below-zero c) (k .sum) (k .small)))
-
-cast-result : tie.Need-cast-result
-cast-result c = omega (za, quot-small (c .before .before .before))
 
 returns-2 : tie.Need-returns-2
 returns-2 c =
@@ -113,10 +104,10 @@ floor-of-spec =
     tie.close
     (tie.spec
     (λ c κs. search needs)
-    scaled-requires
+    (λ c κs. (c .before .pre .1, c .before .pre .2))
     (λ c κs. quot-small c)
-    cast-up
+    (λ c. omega (za, up-small c))
     sub-result
     returns
-    cast-result
+    (λ c. omega (za, quot-small (c .before .before .before)))
     returns-2)

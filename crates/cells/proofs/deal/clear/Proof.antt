@@ -13,9 +13,6 @@ Inv-loop counts₀ i₀ counts i = (i ≤ length counts₀) × (length counts �
 abbrev μ-loop : tie.MeasureT-loop
 μ-loop counts₀ i₀ counts i = length counts₀ - i
 
-loop-again : tie.Need-loop-again Inv-loop μ-loop
-loop-again c = (omega arith, simp length-set (c .before .loop .inv .1))
-
 pub clear-spec : {M : Type 1} → statement M
 clear-spec =
     tie.close
@@ -27,6 +24,6 @@ clear-spec =
     (λ c. omega arith)
     (λ c. omega arith)
     (λ c. omega arith)
-    loop-again
+    (λ c. (omega arith, simp length-set (c .before .loop .inv .1)))
     (λ c. c .before .loop .inv .1)
     (λ c. search needs))

@@ -13,9 +13,6 @@ Inv-loop marks₀ lacks₀ wants₀ counts₀ m n i₀ marks lacks wants counts 
 abbrev μ-loop : tie.MeasureT-loop
 μ-loop marks₀ lacks₀ wants₀ counts₀ m n i₀ marks lacks wants counts i = m - i
 
-loop-holds : tie.Need-loop-holds Inv-loop μ-loop
-loop-holds c = (omega arith, kept-none _ _ _, refl)
-
 deal-row-requires : tie.Need-deal-row-requires Inv-loop μ-loop
 deal-row-requires c κs =
     let l = c .before .before .before .before in
@@ -42,7 +39,7 @@ deal-spec =
     (tie.spec
     Inv-loop
     μ-loop
-    loop-holds
+    (λ c. (omega arith, kept-none _ _ _, refl))
     deal-row-requires
     add-i
     loop-less

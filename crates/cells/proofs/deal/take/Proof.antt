@@ -31,30 +31,6 @@ here c =
       row = omega (arith, k .tall);
     }
 
-loop-holds : tie.Need-loop-holds Inv-loop μ-loop
-loop-holds c = (omega arith, kept-none _ _ _)
-
-slice-read-if1 : tie.Need-slice-read-if1 Inv-loop μ-loop
-slice-read-if1 c = here (c .before) .column
-
-mul-if2 : tie.Need-mul-if2 Inv-loop μ-loop
-mul-if2 c = omega (arith, here (c .before .before))
-
-add-if2 : tie.Need-add-if2 Inv-loop μ-loop
-add-if2 c = omega (arith, here (c .before .before))
-
-mul-if2-2 : tie.Need-mul-if2-2 Inv-loop μ-loop
-mul-if2-2 c = omega (arith, here (c .before .before))
-
-slice-read-if2 : tie.Need-slice-read-if2 Inv-loop μ-loop
-slice-read-if2 c = here (c .before .before .before) .cell
-
-mul-if3 : tie.Need-mul-if3 Inv-loop μ-loop
-mul-if3 c = omega (arith, here (c .before .before .before .before))
-
-slice-read-if3 : tie.Need-slice-read-if3 Inv-loop μ-loop
-slice-read-if3 c = here (c .before .before .before .before .before) .row
-
 mul-marks : tie.Need-mul-marks Inv-loop μ-loop
 mul-marks c = omega (arith, here (c .before .before .before .before .before .before))
 
@@ -63,9 +39,6 @@ add-marks c = omega (arith, here (c .before .before .before .before .before .bef
 
 mul-marks-2 : tie.Need-mul-marks-2 Inv-loop μ-loop
 mul-marks-2 c = omega (arith, here (c .before .before .before .before .before .before))
-
-slice-write-marks : tie.Need-slice-write-marks Inv-loop μ-loop
-slice-write-marks c = here (c .before .before .before .before .before .before) .cell
 
 mul-wants : tie.Need-mul-wants Inv-loop μ-loop
 mul-wants c = omega (arith, here (c .before .before .before .before .before .before))
@@ -113,20 +86,20 @@ take-spec =
     (tie.spec
     Inv-loop
     μ-loop
-    loop-holds
+    (λ c. (omega arith, kept-none _ _ _))
     (λ c. omega arith)
     (λ c. omega arith)
-    slice-read-if1
-    mul-if2
-    add-if2
-    mul-if2-2
-    slice-read-if2
-    mul-if3
-    slice-read-if3
+    (λ c. here (c .before) .column)
+    (λ c. omega (arith, here (c .before .before)))
+    (λ c. omega (arith, here (c .before .before)))
+    (λ c. omega (arith, here (c .before .before)))
+    (λ c. here (c .before .before .before) .cell)
+    (λ c. omega (arith, here (c .before .before .before .before)))
+    (λ c. here (c .before .before .before .before .before) .row)
     mul-marks
     add-marks
     mul-marks-2
-    slice-write-marks
+    (λ c. here (c .before .before .before .before .before .before) .cell)
     mul-wants
     slice-read-wants
     sub-wants

@@ -33,9 +33,6 @@ size c =
     let d = debit c in
     simp (toZ-ofZ, d .1) (omega (arith, d .0, abs-is (getD (s .args .vd .now) (c .before .loop .j) (pos 0))))
 
-loop-holds : tie.Need-loop-holds Inv-loop μ-loop
-loop-holds c = naturals-start _ _
-
 cast-x : tie.Need-cast-x Inv-loop μ-loop
 cast-x c = let d = debit (c .before) in simp (toZ-ofZ, d .1) (omega (za, d .0))
 
@@ -59,7 +56,7 @@ naturals-spec =
     (tie.spec
     Inv-loop
     μ-loop
-    loop-holds
+    (λ c. naturals-start _ _)
     (λ c. omega arith)
     (λ c. c .loop-test .taken)
     cast-x

@@ -11,9 +11,6 @@ Inv-loop marks wc co i n base best₀ most₀ j₀ best most j = FreeInv (length
 abbrev μ-loop : tie.MeasureT-loop
 μ-loop marks wc co i n base best₀ most₀ j₀ best most j = length co - j
 
-loop-holds : tie.Need-loop-holds Inv-loop μ-loop
-loop-holds c = free-start _ _ _ _ _
-
 loop-again : tie.Need-loop-again Inv-loop μ-loop
 loop-again c = free-better (c .before .before .before .before .before .before .before .before .loop .inv) (c .before .before .before .before .before .before .before .loop-test .taken) (c .before .before .before .before .before .if1 .taken) (c .before .before .before .if2 .taken) (c .before .if3 .taken)
 
@@ -26,9 +23,6 @@ loop-again-3 c = free-pass (c .before .before .before .before .before .loop .inv
 loop-again-4 : tie.Need-loop-again-4 Inv-loop μ-loop
 loop-again-4 c = free-pass (c .before .before .before .loop .inv) (c .before .before .loop-test .taken) (λ e o. c .if1 .left)
 
-returns : tie.Need-returns Inv-loop μ-loop
-returns c = free-end (c .before .loop .inv) (c .loop-test .left)
-
 pub most-wanting-spec : {M : Type 1} → statement M
 most-wanting-spec =
     tie.close
@@ -36,7 +30,7 @@ most-wanting-spec =
     Inv-loop
     μ-loop
     (λ c. omega arith)
-    loop-holds
+    (λ c. free-start _ _ _ _ _)
     (λ c. omega arith)
     (λ c. omega arith)
     (λ c. omega arith)
@@ -55,4 +49,4 @@ most-wanting-spec =
     loop-again-3
     (λ c. omega arith)
     loop-again-4
-    returns)
+    (λ c. free-end (c .before .loop .inv) (c .loop-test .left)))

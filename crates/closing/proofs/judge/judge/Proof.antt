@@ -35,9 +35,6 @@ passed :
     → accepted ≡ throughLines (c .before .before .before) points
 passed c points b = sym (ap verdictOf (c .enum-told .given .1)) ∙ through-told (c .before .before) points b
 
-through-lines-requires : tie.Need-through-lines-requires
-through-lines-requires c κs = held-reach (c .pre .2)
-
 slice-aggregate-weighed : tie.Need-slice-aggregate-weighed
 slice-aggregate-weighed c =
     let d = c .before in
@@ -67,7 +64,7 @@ pub judge-spec : {M : Type 1} → statement M
 judge-spec =
     tie.close
     (tie.spec
-    through-lines-requires
+    (λ c κs. held-reach (c .pre .2))
     (λ c. search needs)
     (λ c κs. search needs)
     (λ c. search needs)

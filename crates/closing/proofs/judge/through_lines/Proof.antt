@@ -5,12 +5,6 @@ use Rattle.rules.specs.Calls.{verdictOf}
 use Rattle.closing.proofs.judge.through_lines.Statement.{statement}
 use Rattle.closing.proofs.judge.through_lines.Tie as tie
 
-state-verdict-requires : tie.Need-state-verdict-requires
-state-verdict-requires c κs = c .before .before .pre (c .enum-told .given .1)
-
-returns : tie.Need-returns
-returns c points t = rw (c .before .first .given .1)
-
 returns-2 : tie.Need-returns-2
 returns-2 c points t =
     let e = c .before .before .before in
@@ -28,10 +22,10 @@ through-lines-spec =
     (tie.spec
     (λ c. search needs)
     (λ c. search needs)
-    state-verdict-requires
+    (λ c κs. c .before .before .pre (c .enum-told .given .1))
     (λ c. search needs)
     (λ c. search needs)
     (λ c κs. search needs)
-    returns
+    (λ c points t. rw (c .before .first .given .1))
     returns-2
     returns-3)

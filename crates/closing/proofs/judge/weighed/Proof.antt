@@ -86,20 +86,8 @@ debits-told c t =
     (simp (toZ-ofZ, f) at (c .debits-verdict .ensures))
     ∙ debits-tested t _ (weights-told (b .before .before .before)) (ap verdictOf (b .before .enum-told .given .1)) (billed b t)
 
-pv-total-requires : tie.Need-pv-total-requires
-pv-total-requires c κs = agents-asked (c .before .pre .3)
-
-pb-total-requires : tie.Need-pb-total-requires
-pb-total-requires c κs = agents-asked (c .before .before .pre .3)
-
-array-share-prefix-uses : tie.Need-array-share-prefix-uses
-array-share-prefix-uses c = uses-reach (c .before .before .before .pre .3)
-
 slice-aggregate-total : tie.Need-slice-aggregate-total
 slice-aggregate-total c = sym (length-take-le _ _ (uses-reach (c .before .before .before .before .pre .3)))
-
-total-requires : tie.Need-total-requires
-total-requires c κs = total-asked (c .before .before .before .before .pre .3)
 
 bill-requires : tie.Need-bill-requires
 bill-requires c κs =
@@ -123,11 +111,11 @@ pub weighed-spec : {M : Type 1} → statement M
 weighed-spec =
     tie.close
     (tie.spec
-    pv-total-requires
-    pb-total-requires
-    array-share-prefix-uses
+    (λ c κs. agents-asked (c .before .pre .3))
+    (λ c κs. agents-asked (c .before .before .pre .3))
+    (λ c. uses-reach (c .before .before .before .pre .3))
     slice-aggregate-total
-    total-requires
+    (λ c κs. total-asked (c .before .before .before .before .pre .3))
     (λ c κs. search needs)
     (λ c. search needs)
     (λ c κs. search needs)

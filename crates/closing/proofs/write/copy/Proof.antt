@@ -18,9 +18,6 @@ Inv-loop from to₀ n i₀ to i = Filling from to₀ to i
 abbrev μ-loop : tie.MeasureT-loop
 μ-loop from to₀ n i₀ to i = n - i
 
-loop-holds : tie.Need-loop-holds Inv-loop μ-loop
-loop-holds c = filling-none _ _
-
 slice-set-from-to : tie.Need-slice-set-from-to Inv-loop μ-loop
 slice-set-from-to c =
     let s = c .before .before .before in
@@ -33,9 +30,6 @@ loop-again c =
     let f : SFits w64 (getD (s .args .from .now) (b .i) (pos 0)) = search needs in
     rw (toZ-ofZ f) (filling-more (s .pre) (b .inv) (pos 0) (omega (arith, s .pre)) refl)
 
-same-length : tie.Need-same-length Inv-loop μ-loop
-same-length c = filling-long (c .before .before .pre) (c .before .loop .inv)
-
 returns : tie.Need-returns Inv-loop μ-loop
 returns c = let s = c .before .before in filling-all (s .pre) (c .before .loop .inv) (omega (arith, s .pre))
 
@@ -45,7 +39,7 @@ copy-spec =
     (tie.spec
     Inv-loop
     μ-loop
-    loop-holds
+    (λ c. filling-none _ _)
     (λ c. search needs)
     (λ c. search needs)
     (λ c. search needs)
@@ -53,5 +47,5 @@ copy-spec =
     (λ c. search needs)
     (λ c. search needs)
     loop-again
-    same-length
+    (λ c. filling-long (c .before .before .pre) (c .before .loop .inv))
     returns)

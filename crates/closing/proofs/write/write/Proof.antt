@@ -38,9 +38,6 @@ credits-written c w =
     let s = start c in
     (rw (toZ-ofZ (total-fits s)) at (c .vcs .ensures)) ∙ credits-are w
 
-array-borrow-prefix-vc : tie.Need-array-borrow-prefix-vc
-array-borrow-prefix-vc c = payees-fit (c .before .before .before .before)
-
 slice-aggregate-vcs : tie.Need-slice-aggregate-vcs
 slice-aggregate-vcs c = sym (length-take-le _ _ (payees-fit (c .before .before .before .before .before)))
 
@@ -88,7 +85,7 @@ write-spec =
     tie.close
     (tie.spec
     (λ c. search needs)
-    array-borrow-prefix-vc
+    (λ c. payees-fit (c .before .before .before .before))
     slice-aggregate-vcs
     vcs-requires
     array-share-prefix-vc

@@ -12,9 +12,6 @@ use Rattle.credits.proofs.agent.vmpa.Tie as tie
 bounds : (s : tie.Start) → DueBounds (s .args .c) (s .args .pa)
 bounds s = due-bounds (s .args .c) (s .pre .0) (s .pre .1)
 
-mul-floor-12 : tie.Need-mul-floor-12
-mul-floor-12 c = simp (toZ-ofZ, c .fits .c, c .fits .pa) (bounds c .due .fits)
-
 due-is : (c : tie.After-floor-12) → let a = c .before .args in c .floor-12 .result ≡ floor (a .pa *ℤ a .c) (pos 12)
 due-is c = let s = c .before in simp (toZ-ofZ, s .fits .c, s .fits .pa, bounds s .due .fits) at (c .floor-12 .ensures)
 
@@ -47,7 +44,7 @@ pub vmpa-spec : {M : Type 1} → statement M
 vmpa-spec =
     tie.close
     (tie.spec
-    mul-floor-12
+    (λ c. simp (toZ-ofZ, c .fits .c, c .fits .pa) (bounds c .due .fits))
     (λ c κs. search needs)
     sub-floor-12
     mul-floor-12-2

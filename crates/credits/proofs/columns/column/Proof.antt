@@ -24,9 +24,6 @@ abbrev μ-loop : tie.MeasureT-loop
 same : (s : tie.Start Inv-loop μ-loop) → length (column (s .args .k) (s .args .agents .now)) ≡ length (s .args .out .now)
 same s = rw length-map (sym (s .pre .1))
 
-loop-holds : tie.Need-loop-holds Inv-loop μ-loop
-loop-holds c = filling-none _ _
-
 slice-set-from-out : tie.Need-slice-set-from-out Inv-loop μ-loop
 slice-set-from-out c =
     let s = c .before .before .before .before in
@@ -40,9 +37,6 @@ loop-again c =
     rw (toZ-ofZ f)
     (filling-more (same s) (b .inv) (pos 0) (omega (arith, s .pre .1)) (sym (getD-map _ (s .args .agents .now) (b .i) [] (pos 0) (c .before .before .loop-test .taken))))
 
-same-length : tie.Need-same-length Inv-loop μ-loop
-same-length c = filling-long (same (c .before .before)) (c .before .loop .inv)
-
 returns : tie.Need-returns Inv-loop μ-loop
 returns c = let s = c .before .before in filling-all (same s) (c .before .loop .inv) (omega (arith, s .pre .1))
 
@@ -52,7 +46,7 @@ column-spec =
     (tie.spec
     Inv-loop
     μ-loop
-    loop-holds
+    (λ c. filling-none _ _)
     (λ c. search needs)
     (λ c. search needs)
     (λ c. search needs)
@@ -62,5 +56,5 @@ column-spec =
     (λ c. search needs)
     (λ c. search needs)
     loop-again
-    same-length
+    (λ c. filling-long (same (c .before .before)) (c .before .loop .inv))
     returns)

@@ -20,9 +20,6 @@ Inv-loop agents k sum₀ i₀ sum i = Added (column k agents) (toZ w64 sum) i
 abbrev μ-loop : tie.MeasureT-loop
 μ-loop agents k sum₀ i₀ sum i = length agents - i
 
-loop-holds : tie.Need-loop-holds Inv-loop μ-loop
-loop-holds c = added-none _
-
 module _ (c : tie.After-sum Inv-loop μ-loop) where
   abbrev s : tie.Start Inv-loop μ-loop
   s = c .before .before .before .before
@@ -45,14 +42,8 @@ module _ (c : tie.After-sum Inv-loop μ-loop) where
   sum-fits : SFits w64 (toZ w64 (c .before .before .before .loop .sum) +ℤ entry)
   sum-fits = added-fits (c .before .before .before .loop .inv) (s .pre .1) inside entry-is
 
-add-sum : tie.Need-add-sum Inv-loop μ-loop
-add-sum c = rw (toZ-ofZ (entry-fits c)) (sum-fits c)
-
 loop-again : tie.Need-loop-again Inv-loop μ-loop
 loop-again c = rw (toZ-ofZ (entry-fits c), toZ-ofZ (sum-fits c)) (added-more (c .before .before .before .loop .inv) (inside c) (entry-is c))
-
-returns : tie.Need-returns Inv-loop μ-loop
-returns c = added-all (c .before .loop .inv) (rw length-map (c .loop-test .left))
 
 pub column-total-spec : {M : Type 1} → statement M
 column-total-spec =
@@ -60,13 +51,13 @@ column-total-spec =
     (tie.spec
     Inv-loop
     μ-loop
-    loop-holds
+    (λ c. added-none _)
     (λ c. search needs)
     (λ c. search needs)
     (λ c. search needs)
     (λ c. search needs)
-    add-sum
+    (λ c. rw (toZ-ofZ (entry-fits c)) (sum-fits c))
     (λ c. search needs)
     (λ c. search needs)
     loop-again
-    returns)
+    (λ c. added-all (c .before .loop .inv) (rw length-map (c .loop-test .left))))

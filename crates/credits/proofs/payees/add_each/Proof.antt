@@ -28,9 +28,6 @@ long c =
     let s = c .before .before in
     omega (arith, filling-long (same s) (c .before .loop .inv), s .pre .2)
 
-loop-holds : tie.Need-loop-holds Inv-loop μ-loop
-loop-holds c = filling-none _ _
-
 module _ (c : tie.After-out2 Inv-loop μ-loop) where
   abbrev s : tie.Start Inv-loop μ-loop
   s = c .before .before .before .before
@@ -56,19 +53,10 @@ module _ (c : tie.After-out2 Inv-loop μ-loop) where
   sum-is : getD (s .args .out .now) i (pos 0) +ℤ getD (s .args .parts .now) i (pos 0) ≡ getD (sideBySide _+ℤ_ (s .args .out .now) (s .args .parts .now)) i (pos 0)
   sum-is = sym (getD-sideBySide _+ℤ_ (s .args .out .now) (s .args .parts .now) i (pos 0) (pos 0) (pos 0) (sym (s .pre .2)) inside)
 
-add-out : tie.Need-add-out Inv-loop μ-loop
-add-out c = rw (was c, toZ-ofZ (entry-fits c), toZ-ofZ (part-fits c)) (sum-fits c)
-
-slice-set-from-out : tie.Need-slice-set-from-out Inv-loop μ-loop
-slice-set-from-out c = long (c .before .before)
-
 loop-again : tie.Need-loop-again Inv-loop μ-loop
 loop-again c =
     rw (was c, toZ-ofZ (entry-fits c), toZ-ofZ (part-fits c), toZ-ofZ (sum-fits c))
     (filling-more (same (s c)) (c .before .before .before .loop .inv) (pos 0) (inside c) (sum-is c))
-
-same-length : tie.Need-same-length Inv-loop μ-loop
-same-length c = filling-long (same (c .before .before)) (c .before .loop .inv)
 
 returns : tie.Need-returns Inv-loop μ-loop
 returns c =
@@ -81,16 +69,16 @@ add-each-spec =
     (tie.spec
     Inv-loop
     μ-loop
-    loop-holds
+    (λ c. filling-none _ _)
     (λ c. search needs)
     (λ c. long c)
     (λ c. search needs)
     (λ c. search needs)
-    add-out
+    (λ c. rw (was c, toZ-ofZ (entry-fits c), toZ-ofZ (part-fits c)) (sum-fits c))
     (λ c. search needs)
-    slice-set-from-out
+    (λ c. long (c .before .before))
     (λ c. search needs)
     (λ c. search needs)
     loop-again
-    same-length
+    (λ c. filling-long (same (c .before .before)) (c .before .loop .inv))
     returns)

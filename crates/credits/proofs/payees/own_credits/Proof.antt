@@ -43,9 +43,6 @@ abbrev μ-loop : tie.MeasureT-loop
 same : (s : tie.Start Inv-loop μ-loop) → length (own (s .args .line) (s .args .agents .now)) ≡ length (s .args .out .now)
 same s = long (s .args .line) (s .args .agents .now) ∙ sym (s .pre .2)
 
-loop-holds : tie.Need-loop-holds Inv-loop μ-loop
-loop-holds c = filling-none _ _
-
 own-credit-requires : tie.Need-own-credit-requires Inv-loop μ-loop
 own-credit-requires c κs =
     let d = c .before .before in
@@ -69,9 +66,6 @@ loop-again c =
     (filling-more (same s) (b .inv) (pos 0) (omega (arith, s .pre .2))
     ((rw (toZ-ofZ m) at (c .own-credit .ensures)) ∙ sym (own-at (s .args .line) (s .args .agents .now) (b .i) (d .loop-test .taken))))
 
-same-length : tie.Need-same-length Inv-loop μ-loop
-same-length c = filling-long (same (c .before .before)) (c .before .loop .inv)
-
 returns : tie.Need-returns Inv-loop μ-loop
 returns c =
     let s = c .before .before in
@@ -83,7 +77,7 @@ own-credits-spec =
     (tie.spec
     Inv-loop
     μ-loop
-    loop-holds
+    (λ c. filling-none _ _)
     (λ c. search needs)
     (λ c. search needs)
     own-credit-requires
@@ -92,5 +86,5 @@ own-credits-spec =
     (λ c. search needs)
     (λ c. search needs)
     loop-again
-    same-length
+    (λ c. filling-long (same (c .before .before)) (c .before .loop .inv))
     returns)

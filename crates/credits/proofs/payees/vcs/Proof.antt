@@ -18,18 +18,6 @@ use Rattle.credits.proofs.payees.vcs.Tie as tie
 few : (s : tie.Start) → length (s .args .agents .now) ≤ 256
 few s = rw length-map at (s .pre .0 .lines .few)
 
-slice-aggregate-agent-credits : tie.Need-slice-aggregate-agent-credits
-slice-aggregate-agent-credits c = sym (length-take-le _ _ (few (c .before)))
-
-array-borrow-prefix-vmant : tie.Need-array-borrow-prefix-vmant
-array-borrow-prefix-vmant c = few (c .before)
-
-slice-aggregate-agent-credits-2 : tie.Need-slice-aggregate-agent-credits-2
-slice-aggregate-agent-credits-2 c = sym (length-take-le _ _ (few (c .before .before)))
-
-slice-aggregate-agent-credits-3 : tie.Need-slice-aggregate-agent-credits-3
-slice-aggregate-agent-credits-3 c = sym (length-take-le _ _ (omega arith))
-
 agent-credits-requires : tie.Need-agent-credits-requires
 agent-credits-requires c κs =
     let s = c .before .before .before in (
@@ -55,11 +43,11 @@ vcs-spec =
     tie.close
     (tie.spec
     (λ c. few c)
-    slice-aggregate-agent-credits
-    array-borrow-prefix-vmant
-    slice-aggregate-agent-credits-2
+    (λ c. sym (length-take-le _ _ (few (c .before))))
+    (λ c. few (c .before))
+    (λ c. sym (length-take-le _ _ (few (c .before .before))))
     (λ c. search needs)
-    slice-aggregate-agent-credits-3
+    (λ c. sym (length-take-le _ _ (omega arith)))
     agent-credits-requires
     (λ c. search needs)
     (λ c. search needs)

@@ -24,9 +24,6 @@ Inv-loop agents i₀ i = (i ≤ length agents) × Past test agents i
 abbrev μ-loop : tie.MeasureT-loop
 μ-loop agents i₀ i = length agents - i
 
-loop-holds : tie.Need-loop-holds Inv-loop μ-loop
-loop-holds c = (omega arith, none-past test _)
-
 returns : tie.Need-returns Inv-loop μ-loop
 returns c =
     let b = c .before .before .before .before in
@@ -48,7 +45,7 @@ agents-verdict-spec =
     (tie.spec
     Inv-loop
     μ-loop
-    loop-holds
+    (λ c. (omega arith, none-past test _))
     (λ c. search needs)
     (λ c. search needs)
     (λ c. search needs)

@@ -29,9 +29,6 @@ tested c =
     let f : SFits w64 (getD (b .before .args .credits .now) (b .loop .i) (pos 0)) = search needs in
     simp (toZ-ofZ, f) at (c .outside .ensures)
 
-loop-holds : tie.Need-loop-holds Inv-loop μ-loop
-loop-holds c = (omega arith, none-past creditTest _)
-
 returns : tie.Need-returns Inv-loop μ-loop
 returns c =
     let b = c .before .before .before .before in
@@ -51,7 +48,7 @@ credits-verdict-spec =
     (tie.spec
     Inv-loop
     μ-loop
-    loop-holds
+    (λ c. (omega arith, none-past creditTest _))
     (λ c. search needs)
     (λ c. search needs)
     (λ c κs. search needs)

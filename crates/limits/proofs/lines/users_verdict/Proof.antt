@@ -24,9 +24,6 @@ Inv-loop users i₀ i = (i ≤ length users) × Past test users i
 abbrev μ-loop : tie.MeasureT-loop
 μ-loop users i₀ i = length users - i
 
-loop-holds : tie.Need-loop-holds Inv-loop μ-loop
-loop-holds c = (omega arith, none-past test _)
-
 returns : tie.Need-returns Inv-loop μ-loop
 returns c =
     let b = c .before .before .before .before in
@@ -48,7 +45,7 @@ users-verdict-spec =
     (tie.spec
     Inv-loop
     μ-loop
-    loop-holds
+    (λ c. (omega arith, none-past test _))
     (λ c. search needs)
     (λ c. search needs)
     (λ c. search needs)

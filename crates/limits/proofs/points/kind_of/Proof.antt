@@ -56,18 +56,6 @@ module _ (c : tie.Else1) where
   at : Index (length xs) (s .args .user)
   at = index (length xs) (s .args .user) (omega arith) there
 
-sub-line : tie.Need-sub-line
-sub-line c = simp (toZ-ofZ, s c .fits .user) (at c .fits)
-
-cast-line : tie.Need-cast-line
-cast-line c = simp (toZ-ofZ, s c .fits .user, at c .fits) (at c .cast)
-
-mul-line : tie.Need-mul-line
-mul-line c = simp (toZ-ofZ, s c .fits .user, at c .fits) (omega (arith, at c .at))
-
-shared-slice-copy-out-line : tie.Need-shared-slice-copy-out-line
-shared-slice-copy-out-line c = simp (toZ-ofZ, s c .fits .user, at c .fits) (at c .at)
-
 returns-2 : tie.Need-returns-2
 returns-2 c =
     let d = c .before .before in
@@ -81,9 +69,9 @@ kind-of-spec =
     (λ c. search needs)
     (λ c κs. search needs)
     returns
-    sub-line
-    cast-line
-    mul-line
-    shared-slice-copy-out-line
+    (λ c. simp (toZ-ofZ, s c .fits .user) (at c .fits))
+    (λ c. simp (toZ-ofZ, s c .fits .user, at c .fits) (at c .cast))
+    (λ c. simp (toZ-ofZ, s c .fits .user, at c .fits) (omega (arith, at c .at)))
+    (λ c. simp (toZ-ofZ, s c .fits .user, at c .fits) (at c .at))
     (λ c. search needs)
     returns-2)

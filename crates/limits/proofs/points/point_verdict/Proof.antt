@@ -15,9 +15,6 @@ use Rattle.rules.specs.Lines.{userOf, kindOf, badPoint, unfitPoint}
 use Rattle.limits.proofs.points.point_verdict.Statement.{statement}
 use Rattle.limits.proofs.points.point_verdict.Tie as tie
 
-returns : tie.Need-returns
-returns c = rw (sym (c .before .bad-point .ensures) ∙ c .if1 .taken)
-
 range-fine : (c : tie.Else1) → badPoint (c .before .before .args .p) ≡ false
 range-fine c = sym (c .before .bad-point .ensures) ∙ c .if1 .left
 
@@ -57,7 +54,7 @@ point-verdict-spec =
     tie.close
     (tie.spec
     (λ c κs. search needs)
-    returns
+    (λ c. rw (sym (c .before .bad-point .ensures) ∙ c .if1 .taken))
     (λ c. search needs)
     (λ c κs. search needs)
     returns-2

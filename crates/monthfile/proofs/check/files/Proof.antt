@@ -21,9 +21,6 @@ abbrev μ-loop : tie.MeasureT-loop
 as-long : (n size : ℕ) → n ≡ size → AtLeast size (slices n n n)
 as-long n size e = (omega arith, (omega arith, (omega arith, tt)))
 
-loop-holds : tie.Need-loop-holds Inv-loop μ-loop
-loop-holds c = (refl, same-start _)
-
 returns : tie.Need-returns Inv-loop μ-loop
 returns c =
     let at = c .before .before .before .before .before in
@@ -73,7 +70,7 @@ files-spec =
     (tie.spec
     Inv-loop
     μ-loop
-    loop-holds
+    (λ c. (refl, same-start _))
     (λ c κs. search needs)
     (λ c. search needs)
     returns

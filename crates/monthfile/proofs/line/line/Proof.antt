@@ -16,9 +16,6 @@ Inv-loop text i commas here₀ left₀ here left = (i ≤ here) × ((here ≤ le
 abbrev μ-loop : tie.MeasureT-loop
 μ-loop text i commas here₀ left₀ here left = left
 
-loop-holds : tie.Need-loop-holds Inv-loop μ-loop
-loop-holds c = (omega arith, (omega arith, λ f. refl))
-
 returns : tie.Need-returns Inv-loop μ-loop
 returns c =
     let at = c .before .before .before .before .before .loop in
@@ -49,7 +46,7 @@ line-spec =
     (tie.spec
     Inv-loop
     μ-loop
-    loop-holds
+    (λ c. (omega arith, (omega arith, λ f. refl)))
     (λ c κs. omega arith)
     (λ c. search needs)
     (λ c. search needs)

@@ -22,9 +22,6 @@ Inv-loop text i commas room here₀ left₀ here left = (i ≤ here) × ((here �
 abbrev μ-loop : tie.MeasureT-loop
 μ-loop text i commas room here₀ left₀ here left = left
 
-loop-holds : tie.Need-loop-holds Inv-loop μ-loop
-loop-holds c = (omega arith, (omega arith, λ f. refl))
-
 returns : tie.Need-returns Inv-loop μ-loop
 returns c =
     let at = c .before .before .before in
@@ -65,7 +62,7 @@ lines-spec =
     (tie.spec
     Inv-loop
     μ-loop
-    loop-holds
+    (λ c. (omega arith, (omega arith, λ f. refl)))
     (λ c κs. omega arith)
     returns
     (λ c κs. omega arith)

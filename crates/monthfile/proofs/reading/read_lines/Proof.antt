@@ -9,9 +9,6 @@ use borrow.Author.Needs.{needs}
 use Rattle.monthfile.proofs.reading.read_lines.Statement.{statement}
 use Rattle.monthfile.proofs.reading.read_lines.Tie as tie
 
-slice-relend-prefix-points-at : tie.Need-slice-relend-prefix-points-at
-slice-relend-prefix-points-at c = room-for _ _ _ _ _ _ _ _ (c .before .before .judged .ensures) .1
-
 slice-aggregate-points-at : tie.Need-slice-aggregate-points-at
 slice-aggregate-points-at c =
     let h = room-for _ _ _ _ _ _ _ _ (c .before .before .before .judged .ensures) .1 in
@@ -33,7 +30,7 @@ read-lines-spec =
     tie.close
     (tie.spec
     (λ c κs. search needs)
-    slice-relend-prefix-points-at
+    (λ c. room-for _ _ _ _ _ _ _ _ (c .before .before .judged .ensures) .1)
     slice-aggregate-points-at
     points-at-requires
     (λ c κs. search needs)

@@ -14,9 +14,6 @@ Inv-loop text at users₀ i₀ n₀ users i n = Filling text at 3 users₀ users
 abbrev μ-loop : tie.MeasureT-loop
 μ-loop text at users₀ i₀ n₀ users i n = length users₀ - n
 
-loop-holds : tie.Need-loop-holds Inv-loop μ-loop
-loop-holds c = filling-none _ _ _ _ (omega arith)
-
 loop-again : tie.Need-loop-again Inv-loop μ-loop
 loop-again c =
     let turn = c .before .before .before .before .before .before in
@@ -26,16 +23,13 @@ loop-again c =
 returns : tie.Need-returns Inv-loop μ-loop
 returns c = filled-over _ _ _ _ _ _ _ (c .before .before .before .loop .inv) (sym (c .before .line-here .ensures) ∙ c .if1 .left)
 
-returns-2 : tie.Need-returns-2 Inv-loop μ-loop
-returns-2 c = filled-full _ _ _ _ _ _ _ (c .before .loop .inv) (omega arith)
-
 pub users-at-spec : {M : Type 1} → statement M
 users-at-spec =
     tie.close
     (tie.spec
     Inv-loop
     μ-loop
-    loop-holds
+    (λ c. filling-none _ _ _ _ (omega arith))
     (λ c κs. omega arith)
     (λ c. search needs)
     (λ c κs. omega arith)
@@ -47,4 +41,4 @@ users-at-spec =
     (λ c. c .before .before .before .loop .inv .same-length)
     returns
     (λ c. c .before .loop .inv .same-length)
-    returns-2)
+    (λ c. filled-full _ _ _ _ _ _ _ (c .before .loop .inv) (omega arith)))

@@ -16,9 +16,6 @@ Inv-loop text i expected here₀ k₀ here k =
 abbrev μ-loop : tie.MeasureT-loop
 μ-loop text i expected here₀ k₀ here k = length expected - k
 
-loop-holds : tie.Need-loop-holds Inv-loop μ-loop
-loop-holds c = (omega arith, (omega arith, λ f. refl))
-
 returns : tie.Need-returns Inv-loop μ-loop
 returns c =
     let turn = c .before .before in
@@ -51,7 +48,7 @@ names-spec =
     (tie.spec
     Inv-loop
     μ-loop
-    loop-holds
+    (λ c. (omega arith, (omega arith, λ f. refl)))
     returns
     (λ c. omega arith)
     (λ c. omega arith)

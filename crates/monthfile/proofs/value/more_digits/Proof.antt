@@ -14,9 +14,6 @@ Inv-loop text i end at₀ at =
 abbrev μ-loop : tie.MeasureT-loop
 μ-loop text i end at₀ at = end - at
 
-loop-holds : tie.Need-loop-holds Inv-loop μ-loop
-loop-holds c = (omega arith, (omega arith, behind-none _ _))
-
 loop-again : tie.Need-loop-again Inv-loop μ-loop
 loop-again c =
     let at = c .before .before .before .before in (
@@ -48,7 +45,7 @@ more-digits-spec =
     Inv-loop
     μ-loop
     (λ c κs. search needs)
-    loop-holds
+    (λ c. (omega arith, (omega arith, behind-none _ _)))
     (λ c. omega arith)
     (λ c κs. search needs)
     (λ c. omega arith)

@@ -18,9 +18,6 @@ Inv-loop text at row₀ columns i₀ k₀ row i k =
 abbrev μ-loop : tie.MeasureT-loop
 μ-loop text at row₀ columns i₀ k₀ row i k = length row₀ - k
 
-loop-holds : tie.Need-loop-holds Inv-loop μ-loop
-loop-holds c = ((refl, omega arith), (omega arith, (refl, row-none _ _ _)))
-
 loop-again : tie.Need-loop-again Inv-loop μ-loop
 loop-again c =
     let v = c .before .before .value-at in
@@ -40,7 +37,7 @@ line-at-spec =
     (tie.spec
     Inv-loop
     μ-loop
-    loop-holds
+    (λ c. ((refl, omega arith), (omega arith, (refl, row-none _ _ _))))
     (λ c κs. omega arith)
     (λ c. omega arith)
     (λ c. omega arith)

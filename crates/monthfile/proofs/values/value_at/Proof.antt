@@ -5,12 +5,6 @@ use borrow.Author.Needs.{needs}
 use Rattle.monthfile.proofs.values.value_at.Statement.{statement}
 use Rattle.monthfile.proofs.values.value_at.Tie as tie
 
-returns : tie.Need-returns
-returns c = no-value _ _ (omega arith) (c .if1 .taken)
-
-sub-t11 : tie.Need-sub-t11
-sub-t11 c = minus-fits _ (c .before .digits-at .ensures .small)
-
 returns-2 : tie.Need-returns-2
 returns-2 c = after-minus _ _ (omega arith) _ (c .before .before .if2 .taken) (c .before .digits-at .ensures)
 
@@ -21,12 +15,12 @@ pub value-at-spec : {M : Type 1} → statement M
 value-at-spec =
     tie.close
     (tie.spec
-    returns
+    (λ c. no-value _ _ (omega arith) (c .if1 .taken))
     (λ c. search needs)
     (λ c. search needs)
     (λ c κs. search needs)
     (λ c. search needs)
-    sub-t11
+    (λ c. minus-fits _ (c .before .digits-at .ensures .small))
     returns-2
     (λ c κs. search needs)
     (λ c. search needs)

@@ -100,35 +100,11 @@ words c =
     moved _ _ _ _ _ (up (c .args .c) (positive c) (c .fits .c .fits)) (pow-pos (leadingZeros 64 (c .args .c)))
     (pow-pos (63 - leadingZeros 64 (c .args .c))) (c .pre) (low-fits c)
 
-shl-high : tie.Need-shl-high
-shl-high c = shift-lt (c .before)
-
-sub-high : tie.Need-sub-high
-sub-high c = omega (arith, shift-lt (c .before .before))
-
 add-high : tie.Need-add-high
 add-high c = let w = words (c .before .before) in record { fits = lt-trans (w .x-lt) (w .v-lt) }
 
-cast-normal : tie.Need-cast-normal
-cast-normal c = shift-fits (c .before .before)
-
-shl-normal : tie.Need-shl-normal
-shl-normal c = shift-lt (c .before .before .before)
-
-cast-normal-2 : tie.Need-cast-normal-2
-cast-normal-2 c = shift-fits (c .before .before .before)
-
-shl-normal-2 : tie.Need-shl-normal-2
-shl-normal-2 c = shift-lt (c .before .before .before)
-
 normal-requires : tie.Need-normal-requires
 normal-requires c κs = let w = words (c .before .before .before) in (w .v-top, w .x-lt)
-
-cast-t8 : tie.Need-cast-t8
-cast-t8 c = shift-fits (c .before .before .before .before)
-
-shr-t7 : tie.Need-shr-t7
-shr-t7 c = shift-lt (c .before .before .before .before .before)
 
 returns : tie.Need-returns
 returns c =
@@ -148,16 +124,16 @@ divide-spec =
     tie.close
     (tie.spec
     (λ c. shift-fits c)
-    shl-high
-    sub-high
+    (λ c. shift-lt (c .before))
+    (λ c. omega (arith, shift-lt (c .before .before)))
     (λ c. search needs)
     (λ c. search needs)
     add-high
-    cast-normal
-    shl-normal
-    cast-normal-2
-    shl-normal-2
+    (λ c. shift-fits (c .before .before))
+    (λ c. shift-lt (c .before .before .before))
+    (λ c. shift-fits (c .before .before .before))
+    (λ c. shift-lt (c .before .before .before))
     normal-requires
-    cast-t8
-    shr-t7
+    (λ c. shift-fits (c .before .before .before .before))
+    (λ c. shift-lt (c .before .before .before .before .before))
     returns)

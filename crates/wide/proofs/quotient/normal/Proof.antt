@@ -49,9 +49,6 @@ mul-two-digits c = search needs
 short : (c : tie.Then1) → let a = c .before .args in a .high * 64 + a .low / 2 ^ 58 < a .v
 short c = top-lt (c .before .args .high) (c .before .args .low) (c .before .args .v) (c .if1 .taken) (c .before .fits .low .fits)
 
-two-digits-requires : tie.Need-two-digits-requires
-two-digits-requires c κs = (c .before .pre .0, short c, rest-lt (c .before .args .low))
-
 returns : tie.Need-returns
 returns c =
     let a = c .before .before .args in
@@ -84,9 +81,6 @@ second-lt c =
     let s = d .before .before in
     quot-lt (2 ^ 6) (positive (s .args .v) (s .pre .0)) (c .two-digits3 .ensures) (left-lt (d .two-digits2 .result .rem) (s .args .low) (s .args .v) (first d .small))
 
-mul-t6 : tie.Need-mul-t6
-mul-t6 c = fits-shl 58 6 tt (first-lt (c .before .before .before .before))
-
 add-t15 : tie.Need-add-t15
 add-t15 c = fits-cat 58 6 tt (first-lt (c .before .before .before .before .before)) (second-lt (c .before .before))
 
@@ -108,12 +102,12 @@ normal-spec =
     (tie.spec
     (λ c. search needs)
     (λ c. omega (arith, short c, c .before .fits .v))
-    two-digits-requires
+    (λ c κs. (c .before .pre .0, short c, rest-lt (c .before .args .low)))
     returns
     (λ c κs. search needs)
     mul-two-digits-2
     add-two-digits-2
     two-digits-requires-3
-    mul-t6
+    (λ c. fits-shl 58 6 tt (first-lt (c .before .before .before .before)))
     add-t15
     returns-2)
