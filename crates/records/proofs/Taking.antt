@@ -22,6 +22,10 @@ map-snoc : {X Y : Type 0} (f : X → Y) (xs : List X) (x : X) → map f (xs ++ x
 map-snoc f [] x = refl
 map-snoc {Y = Y} f (y ∷ xs) x = ap (λ (r : List Y). f y ∷ r) (map-snoc f xs x)
 
+-- what `taken_count` says of the count
+abbrev pub Counted : List Point → ℕ → Type 0
+Counted points n = n ≡ min 1024 (length points)
+
 module _ (points : List Point) (n : ℕ) where
   abbrev pub Facts : ℕ → List (List ℤ) → Type 0
   Facts i lines = (i ≤ n) × ((length lines ≡ 1024) × (map pointOf (take i lines) ≡ take i points))
@@ -29,7 +33,7 @@ module _ (points : List Point) (n : ℕ) where
   pub start-facts : (lines : List (List ℤ)) → length lines ≡ 1024 → Facts 0 lines
   start-facts lines e = (omega arith, (e, refl))
 
-  pub next-facts : (i : ℕ) (lines : List (List ℤ)) (l : List ℤ) → Facts i lines → i < n → n ≡ min 1024 (length points) → pointOf l ≡ getD points i (pointOf []) → Facts (i + 1) (set lines i l)
+  pub next-facts : (i : ℕ) (lines : List (List ℤ)) (l : List ℤ) → Facts i lines → i < n → Counted points n → pointOf l ≡ getD points i (pointOf []) → Facts (i + 1) (set lines i l)
   next-facts i lines l f h counted e =
       let there : i < length lines = omega (arith, h, counted, f .1 .0) in
       let inside : i < length points = omega (arith, h, counted) in (
@@ -40,7 +44,7 @@ module _ (points : List Point) (n : ℕ) where
         ),
       )
 
-  pub end-fact : (i : ℕ) (lines : List (List ℤ)) → Facts i lines → n ≤ i → n ≡ min 1024 (length points) → Takes points lines
+  pub end-fact : (i : ℕ) (lines : List (List ℤ)) → Facts i lines → n ≤ i → Counted points n → Takes points lines
   end-fact i lines f h counted =
       let a : length (take (length points) lines) ≡ i = length-take (length points) lines ∙ omega (arith, f .0, h, counted, f .1 .0) in
       let b : length (take 1024 points) ≡ i = length-take 1024 points ∙ omega (arith, f .0, h, counted) in

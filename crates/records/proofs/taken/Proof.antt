@@ -4,7 +4,7 @@
 use mathlib.Core.Path.{_≡_, refl, sym, _∙_, ap, subst}
 use mathlib.Core.Bool.{Bool, true, false}
 use mathlib.Core.WellFounded.{WellFounded, InvImage·wf}
-use Prim.Native.Nat.{ℕ, zero, suc, _+_, _-_, _*_, _<_, _≤_, _^_, min}
+use Prim.Native.Nat.{ℕ, zero, suc, _+_, _-_, _*_, _<_, _≤_, _^_}
 use native.Mathlib.Omega.{arith}
 use mathlib.Core.List.{List, [], _∷_, _++_, map}
 use lib.Dec.{ltb, lit<}
@@ -53,7 +53,7 @@ use Rattle.rules.proofs.Point as T
 use Rattle.rules.proofs.Point.Laws as T′
 use Rattle.records.specs.Taking.{Takes}
 use Rattle.records.proofs.Lines.{Rl, Rls, lines-type, line-vals, line-tells, line-typed, line-makes, lines-typed, lines-makes, line-count, apart, together}
-use Rattle.records.proofs.Taking.{Facts, start-facts, next-facts, end-fact}
+use Rattle.records.proofs.Taking.{Counted, Facts, start-facts, next-facts, end-fact}
 use Rattle.records.proofs.Walking.{bare, full, locals, free-all, places}
 use Rattle.records.proofs.taken_count as count
 use Rattle.records.proofs.taken_count.Symbol as count-def
@@ -142,8 +142,8 @@ module _ {M : Type 1} (𝓤 : URA M) (H : Heap 𝓤) (A : Atoms 𝓤) (W : Given
   goes-count : length ys < 2 ^ 64 → ent 𝓤 (emp 𝓤) (Count 𝓤 H A mem run .pre to-count)
   goes-count fits = qed W [] ∵ nothing ! $ owned ! usize (Is usize) (uint-makes 𝓤 H A W w64) (length ys) _ (refl, fits) $ fjoin ! $ nothing ! $ join ! $ frame ! $ done !
 
-  count-said : (n : ℕ) → ent 𝓤 (ensured 𝓤 H A count.ended (count.clauses 𝓤 H A mem run) tt (length ys, tt) tt n) (fact 𝓤 (n ≡ min 1024 (length ys)))
-  count-said n = exE 𝓤 _ (λ ws. snd∗ 𝓤 (sem 𝓤 H A (lasts count.ended tt (length ys, tt) ws)) (fact 𝓤 (n ≡ min 1024 (length ys))))
+  count-said : (n : ℕ) → ent 𝓤 (ensured 𝓤 H A count.ended (count.clauses 𝓤 H A mem run) tt (length ys, tt) tt n) (fact 𝓤 (Counted ys n))
+  count-said n = exE 𝓤 _ (λ ws. snd∗ 𝓤 (sem 𝓤 H A (lasts count.ended tt (length ys, tt) ws)) (fact 𝓤 (Counted ys n)))
 
   abbrev to-none : None 𝓤 H A mem run .Ghost
   to-none = ((tt, tt, tt, tt, tt), tt)
@@ -175,7 +175,7 @@ module _ {M : Type 1} (𝓤 : URA M) (H : Heap 𝓤) (A : Atoms 𝓤) (W : Given
       abbrev E : Env 𝓤 H
       E = (lines-type, l₀) ∷ (pslice, l₁) ∷ (word, l₂) ∷ (lines-type, l₃) ∷ (word, l₄) ∷ (word, l₅) ∷ (lines-type, l₆) ∷ (tyBool, l₇) ∷ (line, l₈) ∷ (word, l₉) ∷ (tyPtr, l₁₀) ∷ (T′.mir, l₁₁) ∷ (word, l₁₂) ∷ (tyPtr, l₁₃) ∷ (tyPtr, l₁₄) ∷ []
 
-      module _ (n : ℕ) (counted : n ≡ min 1024 (length ys)) where
+      module _ (n : ℕ) (counted : Counted ys n) where
         abbrev Y : Type 0
         Y = State ys n
 
@@ -247,7 +247,7 @@ module _ {M : Type 1} (𝓤 : URA M) (H : Heap 𝓤) (A : Atoms 𝓤) (W : Given
           use0 W (raw (Count 𝓤 H A mem run .pre to-count)) (goes-count (gp .0)) $
           calls-at ! fm (Count 𝓤 H A mem run) known-count to-count (and-then ! (load ! (from ! (stop !)) (look ! (at 3 5) refl)) (no-more !)) (λ u.
           use1 W (later (some (λ (n : ℕ). (‵ ftrue ⊛ ‵ (usize .own n (u ∷ []))) ⊛ raw (ensured 𝓤 H A count.ended (count.clauses 𝓤 H A mem run) tt (length ys, tt) tt n)))) (id⊢ 𝓤 _) $ await ! tt $ pick ! (λ n.
-          split ! $ move ! (1 ∷ []) $ use1 W (raw (fact 𝓤 (n ≡ min 1024 (length ys)))) (count-said n) $ heard ! (n ≡ min 1024 (length ys)) (λ counted. split ! $ drop ! $
+          split ! $ move ! (1 ∷ []) $ use1 W (raw (fact 𝓤 (Counted ys n))) (count-said n) $ heard ! (Counted ys n) (λ counted. split ! $ drop ! $
           peeks ! usize (Is usize) (shows 𝓤 H A usize) n (u ∷ []) (λ isn. land ! (from ! (stop !)) (init ! (at 3 2) refl (uint-lawful 𝓤 H A W w64 .typed n _ isn .0)) $ rewrite ! (at 3 2) (λ (w : Val). ‵ (fat fullShare word l₂ 0 w)) (ap only (isn .0)) refl $ drop ! $
           use0 W (raw (None 𝓤 H A mem run .pre to-none)) goes-none $
           calls-at ! fm (None 𝓤 H A mem run) known-none to-none (no-more !) (λ v.
