@@ -120,7 +120,7 @@ module _ {M : Type 1} (𝓤 : URA M) (H : Heap 𝓤) (A : Atoms 𝓤) (W : Given
     (g : Ledger) (held : RefT (List ℤ)) (line : MonthLine) (agents users : RefT (List (List ℤ))) (points : RefT (List Point)) (xs ys zs : RefT (List (List ℤ))) where
   -- what is promised of the month with these points, in which the answer is r and the rows of points, users and payees are left so
   abbrev Said : List Point → Stated → List (List ℤ) → List (List ℤ) → List (List ℤ) → Type 0
-  Said ps r xs′ ys′ zs′ = States g (held .now) (monthLines (line .month) (line .ons) (agents .now) (users .now) ps) (xs .now) (ys .now) (zs .now) r xs′ ys′ zs′
+  Said ps r xs′ ys′ zs′ = States g (held .now) (monthLines line (agents .now) (users .now) ps) (xs .now) (ys .now) (zs .now) r xs′ ys′ zs′
 
   abbrev n : ℕ
   n = length (points .now)

@@ -12,7 +12,8 @@ use mir.Facts.{toZ-ofZ}
 use Rattle.ints.specs.Fill.{Filling, filling-none, filling-long, filling-more, filling-all}
 use Rattle.rules.specs.Calendar.{cycleMonth}
 use Rattle.rules.specs.Lines.{agentOf}
-use Rattle.rules.proofs.Fits.{AmountsFit, possible}
+use Rattle.rules.specs.Ranges.{AmountsFit}
+use Rattle.rules.proofs.Fits.{possible}
 use Rattle.rules.proofs.Cycle.{cycle-within}
 use Rattle.rules.proofs.BoundsAgent.{correction}
 use Rattle.credits.specs.Columns.{line-at}
@@ -29,9 +30,6 @@ abbrev μ-loop : tie.MeasureT-loop
 
 same : (s : tie.Start Inv-loop μ-loop) (month : ℤ) → length (agentRowsOf month (s .args .vmant .now) (s .args .vc .now) (map agentOf (s .args .agents .now))) ≡ length (s .args .out .now)
 same s month = length-agentRows month (s .args .vmant .now) (s .args .vc .now) (s .args .agents .now) ∙ sym (s .pre .4)
-
-loop-holds : tie.Need-loop-holds Inv-loop μ-loop
-loop-holds c = filling-none _ _
 
 -- the line at i is in its ranges
 fits : (c : tie.In-loop Inv-loop μ-loop) → AmountsFit (agentOf (getD (c .before .before .before .args .agents .now) (c .before .loop .i) []))
@@ -92,7 +90,7 @@ rows-spec =
     Inv-loop
     μ-loop
     (λ c κs. search needs)
-    loop-holds
+    (λ c. filling-none _ _)
     (λ c. search needs)
     (λ c. search needs)
     vmst-requires

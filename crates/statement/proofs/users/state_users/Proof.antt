@@ -7,7 +7,7 @@ use lib.IntN.{pos}
 use lib.ListN.{length}
 use lib.Seq.{length-take-le}
 use mir.Facts.{toZ-ofZ}
-use Rattle.statement.proofs.Owing.{take-same, few, owed}
+use Rattle.statement.proofs.Owing.{take-same, few, first-bills}
 use Rattle.statement.proofs.users.state_users.Statement.{statement}
 use Rattle.statement.proofs.users.state_users.Tie as tie
 
@@ -16,7 +16,7 @@ module _ (s : tie.Start) where
   n = length (s .args .users .now)
 
   reach : n ≤ 512
-  reach = few (s .pre .0 .1)
+  reach = few (s .pre .0 .2)
 
   sums : (length (s .args .s .uses) ≡ 512) × (length (s .args .s .overruns) ≡ 512)
   sums = (search needs, search needs)
@@ -75,13 +75,14 @@ slice-aggregate-work-out-6 c = sym (length-take-le _ _ (reach (c .before .before
 work-out-requires : tie.Need-work-out-requires
 work-out-requires c κs =
     let s = c .before .before .before .before .before .before .before .before .before .before .before in
-    rw (toZ-ofZ (s .fits .pv)) ((_, owed (s .pre .0 .1)), length-take-le _ _ (reach s), take-same _ 512 (pos 0) (reach s), s .pre .1)
+    let m = s .pre .0 .2 in
+    rw (toZ-ofZ (s .fits .pv)) ((_, _, m, first-bills m (s .pre .0 .3)), length-take-le _ _ (reach s), take-same _ 512 (pos 0) (reach s), s .pre .1)
 
 returns : tie.Need-returns
-returns c l o =
+returns c st l m b =
     let d = c .before .before .before in
     let s = d .before .before .before .before .before .before .before .before .before .before .before .before in
-    d .work-out .ensures l (rw (toZ-ofZ (s .fits .pv)) (owed o))
+    d .work-out .ensures st l (rw (toZ-ofZ (s .fits .pv)) m) (first-bills m b)
 
 pub state-users-spec : {M : Type 1} → statement M
 state-users-spec =
