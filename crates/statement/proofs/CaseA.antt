@@ -39,7 +39,8 @@ pub users-of-a :
     ≡ (pos 400 ∷ pos 0 ∷ pos 0 ∷ pos 400 ∷ pos 6 ∷ pos 0 ∷ pos 394 ∷ pos 394 ∷ pos 0 ∷ [])
     ∷ (pos 1600 ∷ pos 0 ∷ pos 0 ∷ pos 1600 ∷ pos 24 ∷ pos 0 ∷ pos 1576 ∷ pos 1576 ∷ pos 0 ∷ [])
     ∷ []
-unfolding userRows userRowsOf floor sumℤ eachFrom sideBySide halfUp orZero useCharge allowance excess overrun ofUser EUSTs overrunSums VMEs pvTotal CPVs ns VDs newCredits runningShare partsFrom part
+unfolding userRows userRowsOf floor sumℤ eachFrom sideBySide halfUp orZero useCharge allowance excess overrun ofUser EUSTs overrunSums VMEs
+    pvTotal CPVs ns VDs newCredits runningShare partsFrom part
 users-of-a = refl
 
 -- user 2 holds 2,000: what is left of it stays held
@@ -48,7 +49,8 @@ pub users-of-a-held :
     ≡ (pos 400 ∷ pos 0 ∷ pos 0 ∷ pos 400 ∷ pos 6 ∷ pos 0 ∷ pos 394 ∷ pos 394 ∷ pos 0 ∷ [])
     ∷ (pos 1600 ∷ pos 0 ∷ pos 0 ∷ pos 1600 ∷ pos 24 ∷ pos 2000 ∷ negsuc 423 ∷ pos 0 ∷ pos 424 ∷ [])
     ∷ []
-unfolding userRows userRowsOf floor sumℤ eachFrom sideBySide halfUp orZero useCharge allowance excess overrun ofUser EUSTs overrunSums VMEs pvTotal CPVs ns VDs newCredits runningShare partsFrom part
+unfolding userRows userRowsOf floor sumℤ eachFrom sideBySide halfUp orZero useCharge allowance excess overrun ofUser EUSTs overrunSums VMEs
+    pvTotal CPVs ns VDs newCredits runningShare partsFrom part
 users-of-a-held = refl
 
 pub payees-of-a :
@@ -57,5 +59,7 @@ pub payees-of-a :
     ∷ (pos 1970 ∷ pos 2 ∷ negsuc 736 ∷ pos 0 ∷ pos 1235 ∷ [])
     ∷ (pos 0 ∷ pos 0 ∷ pos 0 ∷ pos 0 ∷ pos 100 ∷ [])
     ∷ []
-unfolding payeeRowsFrom agentRowsOf floor sumℤ eachFrom sideBySide halfUp orZero useCharge allowance excess overrun ofUser EUSTs overrunSums VMEs pvTotal CPVs ns VDs newCredits runningShare partsFrom part monthOfYear cycleMonth VMPA VMST ownCredit ownCredits SMSEFrom VMANTsFrom agentVCsFrom
+unfolding payeeRowsFrom agentRowsOf floor sumℤ eachFrom sideBySide halfUp orZero useCharge allowance excess overrun ofUser EUSTs overrunSums VMEs
+    pvTotal CPVs ns VDs newCredits runningShare partsFrom part monthOfYear cycleMonth
+    VMPA VMST ownCredit ownCredits SMSEFrom VMANTsFrom agentVCsFrom
 payees-of-a = refl

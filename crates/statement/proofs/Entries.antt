@@ -27,7 +27,8 @@ abbrev pub userRow : List (List ℤ) → (uses over vme cpv held vd new : List �
 userRow users uses over vme cpv held vd new i =
     at uses i ∷ at over i ∷ at (getD users i []) 2 ∷ at vme i ∷ at cpv i ∷ at held i ∷ (at vme i -ℤ at cpv i -ℤ at held i) ∷ at vd i ∷ at new i ∷ []
 
-module _ {users : List (List ℤ)} {uses over vme cpv held vd new : List ℤ} {out : List (List ℤ)} (r : UserColumns users uses over vme cpv held vd new out) (i : ℕ) (h : i < length users) where
+module _ {users : List (List ℤ)} {uses over vme cpv held vd new : List ℤ} {out : List (List ℤ)}
+    (r : UserColumns users uses over vme cpv held vd new out) (i : ℕ) (h : i < length users) where
   net-at : at (nsFrom vme cpv held) i ≡ at vme i -ℤ at cpv i -ℤ at held i
   net-at =
       let same = sym (r .amounts .cpv-count) in

@@ -29,7 +29,10 @@ module _ {users : List (List ℤ)} {uses over : List ℤ} {pv : ℤ} {held : Lis
   few = omega (arith, user-count m, ranged (m .tested) .few-users)
 
   -- the bills of these users
-  pub first-bills : {bills : Bills} → Billed (length users) st l bills → Amounts st l (take (length users) (bills .debits)) (take (length users) (bills .credits)) (sumℤ (VDs st l))
+  pub first-bills :
+      {bills : Bills}
+      → Billed (length users) st l bills
+      → Amounts st l (take (length users) (bills .debits)) (take (length users) (bills .credits)) (sumℤ (VDs st l))
   first-bills b = record { debits = first-debits m b; credits = first-credits m b; total = refl }
 
   module _ {vd new : List ℤ} (a : Amounts st l vd new (sumℤ (VDs st l))) where

@@ -26,7 +26,6 @@ use Rattle.charges.specs.declared.scan.Sums.{Sums}
 use Rattle.charges.specs.Scan.{scanned}
 use Rattle.closing.specs.declared.judge.Judged.{Judged}
 use Rattle.closing.specs.Judged.{Begun, Judges}
-use Rattle.statement.specs.declared.Stated.{Stated}
 use Rattle.statement.specs.Statement.{RowRooms, shortRooms, shortOf, statingRefusal, States}
 use Rattle.statement.specs.Writes.{linesOf, Statable, StatedRows}
 
@@ -47,7 +46,8 @@ long-enough s n points e =
 
 -- with 1 and 2 tested and the points scanned, the statement may be judged
 pub begun :
-    (g : Ledger) (held : List ℤ) (line : MonthLine) (agents users xs ys zs : List (List ℤ)) {points : List Point} {count : ℕ} {ls : List (List ℤ)} {s : Sums} {first : Answer}
+    (g : Ledger) (held : List ℤ) (line : MonthLine) (agents users xs ys zs : List (List ℤ))
+    {points : List Point} {count : ℕ} {ls : List (List ℤ)} {s : Sums} {first : Answer}
     → FirstOf count points ls
     → s ≡ scanned (map userOf users) (map pointOf ls)
     → verdictOf first ≡ countTests (stateOf g held) (shortOf g held xs ys zs count) (length users) (length agents) count
@@ -59,12 +59,15 @@ begun g held line agents users xs ys zs f sums told = record {
 }
 
 -- what was found of this statement, whose first points are these lines
-pub record Found (g : Ledger) (held : List ℤ) (line : MonthLine) (agents users xs ys zs : List (List ℤ)) (count : ℕ) (ls : List (List ℤ)) (points : List Point) (s : Sums) (r : Judged) : Type 0 where
+pub record Found (g : Ledger) (held : List ℤ) (line : MonthLine) (agents users xs ys zs : List (List ℤ))
+    (count : ℕ) (ls : List (List ℤ)) (points : List Point) (s : Sums) (r : Judged) : Type 0 where
   pub firsts : FirstOf count points ls
   pub sums : s ≡ scanned (map userOf users) (map pointOf ls)
   pub judged : Judges g held (shortOf g held xs ys zs (length points)) (monthLines line agents users points) r
 
-module _ {g : Ledger} {held : List ℤ} {line : MonthLine} {agents users xs ys zs : List (List ℤ)} {count : ℕ} {ls : List (List ℤ)} {points : List Point} {s : Sums} {r : Judged} (f : Found g held line agents users xs ys zs count ls points s r) where
+module _ {g : Ledger} {held : List ℤ} {line : MonthLine} {agents users xs ys zs : List (List ℤ)}
+    {count : ℕ} {ls : List (List ℤ)} {points : List Point} {s : Sums} {r : Judged}
+    (f : Found g held line agents users xs ys zs count ls points s r) where
   abbrev l : Lines
   l = monthLines line agents users points
 
@@ -111,7 +114,9 @@ module _ {g : Ledger} {held : List ℤ} {line : MonthLine} {agents users xs ys z
     all-there : map pointOf ls ≡ points
     all-there = f .firsts .are ∙ take-all 1024 points (p .few-points)
 
-    pub may-write : Statable line agents users (take (length users) held) ls s (r .bills) (take count xs) (take (length users) ys) (take (length agents + 1) zs) (stateOf g held) short
+    pub may-write :
+        Statable line agents users (take (length users) held) ls s (r .bills)
+        (take count xs) (take (length users) ys) (take (length agents + 1) zs) (stateOf g held) short
     may-write = record {
       accepts = rw all-there passes;
       one-each = length-take-le (g .users) held (room .held);

@@ -27,7 +27,9 @@ use Rattle.credits.specs.Payable.{Payable}
 use Rattle.credits.proofs.Tested.{payable-passed}
 use Rattle.statement.specs.Writes.{InRange, linesOf, Statable}
 
-module _ {line : MonthLine} {agents users : List (List ℤ)} {held : List ℤ} {points : List (List ℤ)} {s : Sums} {bills : Bills} {xs ys zs : List (List ℤ)} {st : State} {short : Verdict} (w : Statable line agents users held points s bills xs ys zs st short) where
+module _ {line : MonthLine} {agents users : List (List ℤ)} {held : List ℤ} {points : List (List ℤ)}
+    {s : Sums} {bills : Bills} {xs ys zs : List (List ℤ)} {st : State} {short : Verdict}
+    (w : Statable line agents users held points s bills xs ys zs st short) where
   abbrev l : Lines
   l = linesOf line agents users points
 

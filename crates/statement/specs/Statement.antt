@@ -88,7 +88,8 @@ statingRefusal g held points users payees l = refusal (stateOf g held) (shortOf 
 
 -- ---- stating the month l on this ledger and these held credits answered r and left the slices of rows so
 -- accepted: the balance, and every row; entries beyond stay
-pub record StatedMonth (g : Ledger) (held : List ℤ) (l : Lines) (points users payees : List (List ℤ)) (r : Stated) (points′ users′ payees′ : List (List ℤ)) : Type 0 where
+pub record StatedMonth (g : Ledger) (held : List ℤ) (l : Lines) (points users payees : List (List ℤ))
+    (r : Stated) (points′ users′ payees′ : List (List ℤ)) : Type 0 where
   pub stated : r ≡ record { answer = Accepted; smse = SMSE (stateOf g held) l }
   pub point-rows : points′ ≡ pointRows l ++ drop (length (l .points)) points
   pub user-rows : users′ ≡ userRows (stateOf g held) l ++ drop (length (l .users)) users
@@ -101,7 +102,8 @@ pub record NotStated (points users payees : List (List ℤ)) (r : Stated) (point
   pub user-rows : users′ ≡ users
   pub payee-rows : payees′ ≡ payees
 
-abbrev pub States : Ledger → List ℤ → Lines → (points users payees : List (List ℤ)) → Stated → (points′ users′ payees′ : List (List ℤ)) → Type 0
+abbrev pub States :
+    Ledger → List ℤ → Lines → (points users payees : List (List ℤ)) → Stated → (points′ users′ payees′ : List (List ℤ)) → Type 0
 States g held l points users payees r points′ users′ payees′ =
     ByVerdict (statingRefusal g held points users payees l)
     (StatedMonth g held l points users payees r points′ users′ payees′)

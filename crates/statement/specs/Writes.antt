@@ -27,7 +27,8 @@ linesOf line agents users points = monthLines line agents users (map pointOf poi
 
 -- nothing refuses these lines on the state st, whose credits are held, one for each user; s is what a scan of the points has found, the
 -- bills are theirs, and every slice has one entry for each of its rows
-pub record Statable (line : MonthLine) (agents users : List (List ℤ)) (held : List ℤ) (points : List (List ℤ)) (s : Sums) (bills : Bills) (point-rows user-rows payee-rows : List (List ℤ)) (st : State) (short : Verdict) : Type 0 where
+pub record Statable (line : MonthLine) (agents users : List (List ℤ)) (held : List ℤ) (points : List (List ℤ))
+    (s : Sums) (bills : Bills) (point-rows user-rows payee-rows : List (List ℤ)) (st : State) (short : Verdict) : Type 0 where
   pub accepts : refusal st short (linesOf line agents users points) ≡ accepted
   pub one-each : length (st .credits) ≡ st .users
   pub held-are : held ≡ st .credits

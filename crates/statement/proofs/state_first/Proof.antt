@@ -15,7 +15,8 @@ use Rattle.rules.specs.Lines.{monthLines}
 use Rattle.records.specs.Taking.{FirstOf}
 use Rattle.closing.specs.Judged.{Begun}
 use Rattle.statement.specs.Statement.{shortOf}
-use Rattle.statement.proofs.Stating.{begun, Found, refused-states, few-agents, held-reach, points-reach, users-reach, payees-reach, may-write, accepted-states}
+use Rattle.statement.proofs.Stating.{begun, Found, refused-states}
+use Rattle.statement.proofs.Stating.{few-agents, held-reach, points-reach, users-reach, payees-reach, may-write, accepted-states}
 use Rattle.statement.proofs.state_first.Statement.{statement}
 use Rattle.statement.proofs.state_first.Tie as tie
 
@@ -31,12 +32,14 @@ begun-so :
 begun-so c points f =
     let v = c .before in
     let a = v .before .args in
-    begun (a .ledger) (a .held .now) (a .line) (a .agents .now) (a .users .now) (a .point-rows .now) (a .user-rows .now) (a .payee-rows .now) f (c .scan .ensures) (v .stating-verdict .ensures (a .held .now))
+    begun (a .ledger) (a .held .now) (a .line) (a .agents .now) (a .users .now) (a .point-rows .now) (a .user-rows .now) (a .payee-rows .now)
+    f (c .scan .ensures) (v .stating-verdict .ensures (a .held .now))
 
 abbrev FoundAt : tie.After-judge → List Point → Type 0
 FoundAt c points =
     let a = start c .args in
-    Found (a .ledger) (a .held .now) (a .line) (a .agents .now) (a .users .now) (a .point-rows .now) (a .user-rows .now) (a .payee-rows .now) (a .n) (a .points .now) points (c .before .scan .result) (c .judge .result)
+    Found (a .ledger) (a .held .now) (a .line) (a .agents .now) (a .users .now) (a .point-rows .now) (a .user-rows .now) (a .payee-rows .now)
+    (a .n) (a .points .now) points (c .before .scan .result) (c .judge .result)
 
 judged : (c : tie.After-judge) (points : List Point) → FirstOf (start c .args .n) points (start c .args .points .now) → FoundAt c points
 judged c points f = let s = c .before in record { firsts = f; sums = s .scan .ensures; judged = c .judge .ensures points _ (begun-so s points f) }

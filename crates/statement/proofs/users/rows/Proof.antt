@@ -24,10 +24,12 @@ Inv-loop users uses overruns vme cpv held debits credits out₀ n i₀ out i =
 abbrev μ-loop : tie.MeasureT-loop
 μ-loop users uses overruns vme cpv held debits credits out₀ n i₀ out i = n - i
 
-same : (s : tie.Start Inv-loop μ-loop) → let a = s .args in length (userRowsBy (a .users .now) (a .uses .now) (a .overruns .now) (a .vme .now) (a .cpv .now) (a .held .now) (a .debits .now) (a .credits .now)) ≡ length (a .out .now)
-same s =
-    let a = s .args in
-    length-userRows (a .users .now) (a .uses .now) (a .overruns .now) (a .vme .now) (a .cpv .now) (a .held .now) (a .debits .now) (a .credits .now) ∙ sym (s .pre .out-count)
+same :
+    (s : tie.Start Inv-loop μ-loop)
+    → let a = s .args in
+    length (userRowsBy (a .users .now) (a .uses .now) (a .overruns .now) (a .vme .now) (a .cpv .now) (a .held .now) (a .debits .now) (a .credits .now))
+    ≡ length (a .out .now)
+same s = length-userRows (s .args .users .now) _ _ _ _ _ _ _ ∙ sym (s .pre .out-count)
 
 -- what `net` asks, and what it comes to
 module _ (c : tie.After-net-arg3 Inv-loop μ-loop) where
@@ -40,7 +42,10 @@ module _ (c : tie.After-net-arg3 Inv-loop μ-loop) where
   abbrev i : ℕ
   i = turn .before .loop .i
 
-  words : Word mostAmount mostCharged (at (start .args .vme .now) i) × Word 0 mostParcels (at (start .args .cpv .now) i) × Word 0 mostHeld (at (start .args .held .now) i)
+  words :
+      Word mostAmount mostCharged (at (start .args .vme .now) i)
+      × Word 0 mostParcels (at (start .args .cpv .now) i)
+      × Word 0 mostHeld (at (start .args .held .now) i)
   words =
       let r = start .pre .amounts in
       let h : i < length (start .args .vme .now) = omega (arith, turn .loop-test .taken, start .pre .vme-count) in
@@ -48,25 +53,6 @@ module _ (c : tie.After-net-arg3 Inv-loop μ-loop) where
 
 net-requires : tie.Need-net-requires Inv-loop μ-loop
 net-requires c κs = let w = words c in rw (toZ-ofZ (w .0 .fits), toZ-ofZ (w .1 .fits), toZ-ofZ (w .2 .fits)) w
-
--- what is read fits
-uses-fit : (c : tie.After-t26 Inv-loop μ-loop) → let d = c .before .before in SFits w64 (at (start d .args .uses .now) (i d))
-uses-fit c = sfits-of (c .t26 .given)
-
-overruns-fit : (c : tie.After-t23 Inv-loop μ-loop) → let d = c .before .before .before in SFits w64 (at (start d .args .overruns .now) (i d))
-overruns-fit c = sfits-of (c .t23 .given)
-
-ret-fit : (c : tie.After-t20 Inv-loop μ-loop) → let d = c .before .before .before .before in SFits w64 (at (getD (start d .args .users .now) (i d) []) 2)
-ret-fit c = sfits-of (c .t20 .given)
-
-debits-fit : (c : tie.After-t41 Inv-loop μ-loop) → let d = c .before .before .before .before .before .before .before .before in SFits w64 (at (start d .args .debits .now) (i d))
-debits-fit c = sfits-of (c .t41 .given)
-
-credits-fit : (c : tie.After-t44 Inv-loop μ-loop) → let d = c .before .before .before .before .before .before .before .before .before in SFits w64 (at (start d .args .credits .now) (i d))
-credits-fit c = sfits-of (c .t44 .given)
-
-net-fits : (c : tie.After-net Inv-loop μ-loop) → SFits w64 (c .net .result)
-net-fits c = search needs
 
 slice-set-from-row : tie.Need-slice-set-from-row Inv-loop μ-loop
 slice-set-from-row c =
@@ -83,17 +69,23 @@ loop-again c =
     let a = s .args in
     let h = turn d .loop-test .taken in
     let w = words d in
+    let f₀ : SFits w64 (at (a .uses .now) (i d)) = sfits-of (t .before .before .t26 .given) in
+    let f₁ : SFits w64 (at (a .overruns .now) (i d)) = sfits-of (t .before .t23 .given) in
+    let f₂ : SFits w64 (at (getD (a .users .now) (i d) []) 2) = sfits-of (t .t20 .given) in
+    let f₃ : SFits w64 (e .net .result) = search needs in
+    let f₄ : SFits w64 (at (a .debits .now) (i d)) = sfits-of (c .before .t41 .given) in
+    let f₅ : SFits w64 (at (a .credits .now) (i d)) = sfits-of (c .t44 .given) in
     let n = rw (toZ-ofZ (w .0 .fits), toZ-ofZ (w .1 .fits), toZ-ofZ (w .2 .fits)) at (e .net .ensures) in
     rw (
-      toZ-ofZ (uses-fit (t .before .before)),
-      toZ-ofZ (overruns-fit (t .before)),
-      toZ-ofZ (ret-fit t),
+      toZ-ofZ f₀,
+      toZ-ofZ f₁,
+      toZ-ofZ f₂,
       toZ-ofZ (w .0 .fits),
       toZ-ofZ (w .1 .fits),
       toZ-ofZ (w .2 .fits),
-      toZ-ofZ (net-fits e),
-      toZ-ofZ (debits-fit (c .before)),
-      toZ-ofZ (credits-fit c),
+      toZ-ofZ f₃,
+      toZ-ofZ f₄,
+      toZ-ofZ f₅,
       n,
     )
     (filling-more (same s) (turn d .before .loop .inv) [] (omega (arith, h, s .pre .out-count)) (sym (user-row-at (s .pre) (i d) h)))

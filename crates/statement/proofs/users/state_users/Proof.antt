@@ -18,47 +18,40 @@ module _ (s : tie.Start) where
   reach : n ≤ 512
   reach = few (s .pre .0 .2)
 
-  sums : (length (s .args .s .uses) ≡ 512) × (length (s .args .s .overruns) ≡ 512)
-  sums = (search needs, search needs)
+  arrays :
+      (length (s .args .s .uses) ≡ 512)
+      × (length (s .args .s .overruns) ≡ 512)
+      × (length (s .args .bills .debits) ≡ 512)
+      × (length (s .args .bills .credits) ≡ 512)
+  arrays = (search needs, search needs, search needs, search needs)
 
-  bills : (length (s .args .bills .debits) ≡ 512) × (length (s .args .bills .credits) ≡ 512)
-  bills = (search needs, search needs)
-
-  uses-reach : n ≤ length (s .args .s .uses)
-  uses-reach = omega (arith, reach, sums)
-
-  overruns-reach : n ≤ length (s .args .s .overruns)
-  overruns-reach = omega (arith, reach, sums)
-
-  debits-reach : n ≤ length (s .args .bills .debits)
-  debits-reach = omega (arith, reach, bills)
-
-  credits-reach : n ≤ length (s .args .bills .credits)
-  credits-reach = omega (arith, reach, bills)
+  -- an array has an entry for each user
+  there : {k : ℕ} → k ≡ 512 → n ≤ k
+  there e = omega (arith, reach, e)
 
 array-share-prefix-uses : tie.Need-array-share-prefix-uses
-array-share-prefix-uses c = uses-reach (c .before .before .before .before)
+array-share-prefix-uses c = let s = c .before .before .before .before in there s (arrays s .0)
 
 slice-aggregate-work-out : tie.Need-slice-aggregate-work-out
-slice-aggregate-work-out c = sym (length-take-le _ _ (uses-reach (c .before .before .before .before .before)))
+slice-aggregate-work-out c = let s = c .before .before .before .before .before in sym (length-take-le _ _ (there s (arrays s .0)))
 
 array-share-prefix-overruns : tie.Need-array-share-prefix-overruns
-array-share-prefix-overruns c = overruns-reach (c .before .before .before .before .before)
+array-share-prefix-overruns c = let s = c .before .before .before .before .before in there s (arrays s .1)
 
 slice-aggregate-work-out-2 : tie.Need-slice-aggregate-work-out-2
-slice-aggregate-work-out-2 c = sym (length-take-le _ _ (overruns-reach (c .before .before .before .before .before .before)))
+slice-aggregate-work-out-2 c = let s = c .before .before .before .before .before .before in sym (length-take-le _ _ (there s (arrays s .1)))
 
 array-share-prefix-debits : tie.Need-array-share-prefix-debits
-array-share-prefix-debits c = debits-reach (c .before .before .before .before .before .before)
+array-share-prefix-debits c = let s = c .before .before .before .before .before .before in there s (arrays s .2)
 
 slice-aggregate-work-out-3 : tie.Need-slice-aggregate-work-out-3
-slice-aggregate-work-out-3 c = sym (length-take-le _ _ (debits-reach (c .before .before .before .before .before .before .before)))
+slice-aggregate-work-out-3 c = let s = c .before .before .before .before .before .before .before in sym (length-take-le _ _ (there s (arrays s .2)))
 
 array-share-prefix-credits : tie.Need-array-share-prefix-credits
-array-share-prefix-credits c = credits-reach (c .before .before .before .before .before .before .before)
+array-share-prefix-credits c = let s = c .before .before .before .before .before .before .before in there s (arrays s .3)
 
 slice-aggregate-work-out-4 : tie.Need-slice-aggregate-work-out-4
-slice-aggregate-work-out-4 c = sym (length-take-le _ _ (credits-reach (c .before .before .before .before .before .before .before .before)))
+slice-aggregate-work-out-4 c = let s = c .before .before .before .before .before .before .before .before in sym (length-take-le _ _ (there s (arrays s .3)))
 
 array-borrow-prefix-vme : tie.Need-array-borrow-prefix-vme
 array-borrow-prefix-vme c = reach (c .before .before .before .before .before .before .before .before)

@@ -17,7 +17,9 @@ MonthAt s st l = Month (s .args .users .now) (s .args .uses .now) (s .args .over
 charged : (c : tie.After-charge) {st : State} {l : Lines} → MonthAt (c .before .before) st l → c .charge .last .1 .1 .1 .0 ≡ VMEs l
 charged c m = c .charge .ensures ∙ charges-are m
 
-compensated : (c : tie.After-compensate) {st : State} {l : Lines} → MonthAt (c .before .before .before .before .before) st l → c .compensate .last .1 .1 .0 ≡ CPVs l
+compensated :
+    (c : tie.After-compensate) {st : State} {l : Lines}
+    → MonthAt (c .before .before .before .before .before) st l → c .compensate .last .1 .1 .0 ≡ CPVs l
 compensated c m = (rw (toZ-ofZ (c .before .before .before .before .before .fits .pv)) at (c .compensate .ensures)) ∙ compensation-is m
 
 charge-requires : tie.Need-charge-requires
