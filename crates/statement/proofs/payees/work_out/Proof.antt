@@ -1,9 +1,7 @@
 -- The columns, then the agents' rows, then ONS's after them.
 use native.Mathlib.Omega.{arith}
-use mathlib.Core.Path.{sym, ap, _∙_}
-use mathlib.Core.List.{List, [], _∷_, _++_}
+use mathlib.Core.Path.{sym, _∙_}
 use borrow.Author.Needs.{needs}
-use lib.IntN.{ℤ}
 use lib.ListN.{length}
 use lib.Seq.{length-take-le}
 use mir.Syntax.{w64}
@@ -45,10 +43,7 @@ returns c =
     let last = onsRow (s .args .line .ons) in
     record {
       SMSE = toZ-ofZ f ∙ a .SMSE;
-      rows-are =
-          rw (toZ-ofZ o)
-          (set-last (r .rows .last .1 .1 .1 .1 .0) (s .args .out .now) (length (s .args .agents .now)) last (s .pre .4) long
-          ∙ ap (λ (l : List (List ℤ)). l ++ last ∷ []) e);
+      rows-are = rw (toZ-ofZ o, set-last (r .rows .last .1 .1 .1 .1 .0) (s .args .out .now) (length (s .args .agents .now)) last (s .pre .4) long, e);
     }
 
 pub work-out-spec : {M : Type 1} → statement M

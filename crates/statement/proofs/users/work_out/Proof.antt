@@ -1,5 +1,5 @@
 -- VME, then CPV, then the rows: the laws of a month's amounts say that each step has what it asks, and what all come to.
-use mathlib.Core.Path.{_≡_, _∙_}
+use mathlib.Core.Path.{_≡_, sym, _∙_}
 use borrow.Author.Needs.{needs}
 use mir.Facts.{toZ-ofZ}
 use Rattle.rules.specs.Lines.{Lines}
@@ -40,7 +40,7 @@ returns : tie.Need-returns
 returns c st l m a =
     let d = c .before .before .before .before .before .before in
     let v = d .before .before .before in
-    (rw (charged v m, compensated d m) at (c .before .rows .ensures)) ∙ user-rows-are m a
+    rw (sym (user-rows-are m a)) (rw (charged v m, compensated d m) at (c .before .rows .ensures))
 
 pub work-out-spec : {M : Type 1} → statement M
 work-out-spec =
