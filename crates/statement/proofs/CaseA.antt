@@ -8,9 +8,10 @@ use Rattle.share.specs.Running.{part, partsFrom, runningShare}
 use Rattle.rules.specs.Lists.{eachFrom, sideBySide}
 use Rattle.rules.specs.Calendar.{monthOfYear, cycleMonth}
 use Rattle.rules.specs.Lines.{Lines, pointOf, kindOf, monthLines}
-use Rattle.rules.specs.Charges.{halfUp, orZero, useCharge, allowance, excess, overrun, ofUser, EUSTs, VMEs, pvTotal, CPVs, ns, VDs, newCredits}
-use Rattle.rules.specs.Credits.{VMPA, VMST, ownCredit, ownCredits, SMSE, VMANTs, VCs}
-use Rattle.statement.specs.Statement.{pointRows, userRowsOf, userRows, agentRowsOf, payeeRows}
+use Rattle.rules.specs.State.{State}
+use Rattle.rules.specs.Charges.{halfUp, orZero, useCharge, allowance, excess, overrun, ofUser, EUSTs, overrunSums, VMEs, pvTotal, CPVs, ns, VDs, newCredits}
+use Rattle.rules.specs.Credits.{VMPA, VMST, ownCredit, ownCredits, SMSEFrom, VMANTsFrom, agentVCsFrom}
+use Rattle.statement.specs.Statement.{pointRows, userRowsOf, userRows, agentRowsOf, payeeRowsFrom, payeeRows}
 
 abbrev line7 : ℤ → ℤ → ℤ → ℤ → ℤ → ℤ → ℤ → List ℤ
 line7 a b c d e f g = a ∷ b ∷ c ∷ d ∷ e ∷ f ∷ g ∷ []
@@ -18,43 +19,47 @@ line7 a b c d e f g = a ∷ b ∷ c ∷ d ∷ e ∷ f ∷ g ∷ []
 -- the file's lines
 abbrev july : Lines
 july =
-    monthLines (pos 202407) (pos 100)
+    monthLines (record { month = pos 202407; ons = pos 100 })
     (line7 (pos 1) (pos 1000) (pos 0) (pos 0) (pos 0) (pos 0) (pos 4) ∷ line7 (pos 2) (pos 2000) (pos 30) (pos 0) (pos 0) (pos 25) (pos 0) ∷ [])
     ((pos 1 ∷ pos 2 ∷ pos 0 ∷ []) ∷ (pos 2 ∷ pos 3 ∷ pos 0 ∷ []) ∷ [])
     (pointOf (pos 1 ∷ line7 (pos 1000) (pos 500) (pos 0) (pos 0) (pos 3) (pos 2) (pos 3) ++ pos 2 ∷ [])
     ∷ pointOf (pos 2 ∷ line7 (pos 2000) (pos 0) (pos 50) (pos 0) (pos 16) (pos 0) (pos 16) ++ pos 0 ∷ [])
     ∷ [])
 
--- no credit is held
-abbrev none : List ℤ
-none = pos 0 ∷ pos 0 ∷ []
+-- a ledger of its counts on which no month is closed, with the credits that its two users hold
+abbrev holding : ℤ → ℤ → State
+holding a b = record { users = 2; agents = 2; month = pos 0; credits = a ∷ b ∷ [] }
 
 pub points-of-a : pointRows july ≡ (pos 400 ∷ pos 0 ∷ []) ∷ (pos 1600 ∷ pos 0 ∷ []) ∷ []
 unfolding pointRows floor halfUp orZero useCharge allowance excess overrun kindOf
 points-of-a = refl
 
 pub users-of-a :
-    userRows none july
+    userRows (holding (pos 0) (pos 0)) july
     ≡ (pos 400 ∷ pos 0 ∷ pos 0 ∷ pos 400 ∷ pos 6 ∷ pos 0 ∷ pos 394 ∷ pos 394 ∷ pos 0 ∷ [])
     ∷ (pos 1600 ∷ pos 0 ∷ pos 0 ∷ pos 1600 ∷ pos 24 ∷ pos 0 ∷ pos 1576 ∷ pos 1576 ∷ pos 0 ∷ [])
     ∷ []
-unfolding userRows userRowsOf floor sumℤ eachFrom sideBySide halfUp orZero useCharge allowance excess overrun ofUser EUSTs VMEs pvTotal CPVs ns VDs newCredits runningShare partsFrom part
+unfolding userRows userRowsOf floor sumℤ eachFrom sideBySide halfUp orZero useCharge allowance excess overrun ofUser EUSTs overrunSums VMEs
+    pvTotal CPVs ns VDs newCredits runningShare partsFrom part
 users-of-a = refl
 
 -- user 2 holds 2,000: what is left of it stays held
 pub users-of-a-held :
-    userRows (pos 0 ∷ pos 2000 ∷ []) july
+    userRows (holding (pos 0) (pos 2000)) july
     ≡ (pos 400 ∷ pos 0 ∷ pos 0 ∷ pos 400 ∷ pos 6 ∷ pos 0 ∷ pos 394 ∷ pos 394 ∷ pos 0 ∷ [])
     ∷ (pos 1600 ∷ pos 0 ∷ pos 0 ∷ pos 1600 ∷ pos 24 ∷ pos 2000 ∷ negsuc 423 ∷ pos 0 ∷ pos 424 ∷ [])
     ∷ []
-unfolding userRows userRowsOf floor sumℤ eachFrom sideBySide halfUp orZero useCharge allowance excess overrun ofUser EUSTs VMEs pvTotal CPVs ns VDs newCredits runningShare partsFrom part
+unfolding userRows userRowsOf floor sumℤ eachFrom sideBySide halfUp orZero useCharge allowance excess overrun ofUser EUSTs overrunSums VMEs
+    pvTotal CPVs ns VDs newCredits runningShare partsFrom part
 users-of-a-held = refl
 
 pub payees-of-a :
-    payeeRows none july
+    payeeRows (holding (pos 0) (pos 0)) july
     ≡ (pos 1000 ∷ pos 0 ∷ negsuc 368 ∷ pos 4 ∷ pos 635 ∷ [])
     ∷ (pos 1970 ∷ pos 2 ∷ negsuc 736 ∷ pos 0 ∷ pos 1235 ∷ [])
     ∷ (pos 0 ∷ pos 0 ∷ pos 0 ∷ pos 0 ∷ pos 100 ∷ [])
     ∷ []
-unfolding payeeRows agentRowsOf floor sumℤ eachFrom sideBySide halfUp orZero useCharge allowance excess overrun ofUser EUSTs VMEs pvTotal CPVs ns VDs newCredits runningShare partsFrom part monthOfYear cycleMonth VMPA VMST ownCredit ownCredits SMSE VMANTs VCs
+unfolding payeeRowsFrom agentRowsOf floor sumℤ eachFrom sideBySide halfUp orZero useCharge allowance excess overrun ofUser EUSTs overrunSums VMEs
+    pvTotal CPVs ns VDs newCredits runningShare partsFrom part monthOfYear cycleMonth
+    VMPA VMST ownCredit ownCredits SMSEFrom VMANTsFrom agentVCsFrom
 payees-of-a = refl

@@ -8,8 +8,8 @@ use lib.ListN.{length, getD, length-map}
 use Rattle.rules.specs.Calendar.{cycleMonth}
 use Rattle.rules.specs.Lists.{eachFrom, sideBySide, length-eachFrom, getD-eachFrom, length-sideBySide, getD-sideBySide, getD-map}
 use Rattle.rules.specs.Lines.{agentOf, userOf}
+use Rattle.rules.specs.Charges.{nsFrom}
 use Rattle.rules.specs.Credits.{VMST, VMPA}
-use Rattle.charges.specs.Month.{nets}
 use Rattle.statement.specs.Statement.{at, userRowsOf, agentRowsOf}
 use Rattle.statement.specs.Columns.{UserColumns, userRowsBy}
 
@@ -27,12 +27,14 @@ abbrev pub userRow : List (List ℤ) → (uses over vme cpv held vd new : List �
 userRow users uses over vme cpv held vd new i =
     at uses i ∷ at over i ∷ at (getD users i []) 2 ∷ at vme i ∷ at cpv i ∷ at held i ∷ (at vme i -ℤ at cpv i -ℤ at held i) ∷ at vd i ∷ at new i ∷ []
 
-module _ {users : List (List ℤ)} {uses over vme cpv held vd new : List ℤ} {out : List (List ℤ)} (r : UserColumns users uses over vme cpv held vd new out) (i : ℕ) (h : i < length users) where
-  net-at : at (nets vme cpv held) i ≡ at vme i -ℤ at cpv i -ℤ at held i
+module _ {users : List (List ℤ)} {uses over vme cpv held vd new : List ℤ} {out : List (List ℤ)}
+    (r : UserColumns users uses over vme cpv held vd new out) (i : ℕ) (h : i < length users) where
+  net-at : at (nsFrom vme cpv held) i ≡ at vme i -ℤ at cpv i -ℤ at held i
   net-at =
-      let both = length-sideBySide _-ℤ_ vme cpv (r .vme-count ∙ sym (r .cpv-count)) ∙ r .vme-count in
-      getD-sideBySide _-ℤ_ (sideBySide _-ℤ_ vme cpv) held i (pos 0) (pos 0) (pos 0) (both ∙ sym (r .held-count)) (omega (arith, both))
-      ∙ ap (λ (x : ℤ). x -ℤ at held i) (getD-sideBySide _-ℤ_ vme cpv i (pos 0) (pos 0) (pos 0) (r .vme-count ∙ sym (r .cpv-count)) (omega (arith, r .vme-count)))
+      let same = sym (r .amounts .cpv-count) in
+      let both = length-sideBySide _-ℤ_ vme cpv same in
+      getD-sideBySide _-ℤ_ (sideBySide _-ℤ_ vme cpv) held i (pos 0) (pos 0) (pos 0) (both ∙ sym (r .amounts .held-count)) (omega (arith, both, r .vme-count))
+      ∙ ap (λ (x : ℤ). x -ℤ at held i) (getD-sideBySide _-ℤ_ vme cpv i (pos 0) (pos 0) (pos 0) same (omega (arith, r .vme-count)))
 
   pub user-row-at : getD (userRowsBy users uses over vme cpv held vd new) i [] ≡ userRow users uses over vme cpv held vd new i
   unfolding userRowsOf

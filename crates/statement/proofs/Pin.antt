@@ -30,9 +30,9 @@ module _ {M : Type 1} (𝓤 : URA M) (H : Heap 𝓤) (𝓜 : Model 𝓤 H) (𝓖
             (λ e.
             let left = e .1 .1 .1 .1 .1 .1 in
             fact 𝓤
-            (States (a .0) (now held) (monthLines (b .0 .month) (b .0 .ons) (now (b .1 .0)) (now (b .1 .1 .0)) (now (b .1 .1 .1 .0))) (now (rows .0)) (now (rows .1 .0)) (now (rows .1 .1 .0)) r (now (left .0))
-            (now (left .1 .0))
-            (now (left .1 .1 .0))));
+            (States (a .0) (now held) (monthLines (b .0) (now (b .1 .0)) (now (b .1 .1 .0)) (now (b .1 .1 .1 .0)))
+            (now (rows .0)) (now (rows .1 .0)) (now (rows .1 .1 .0))
+            r (now (left .0)) (now (left .1 .0)) (now (left .1 .1 .0))));
       }
 
   pub state-meets : Meets 𝓤 H (𝓖 .A) state.signature (𝓡 .run state-code.routine) state-promise

@@ -1,200 +1,146 @@
--- A statement's verdict is closing's once counts and slices have passed, with room for cells and work; and an accepted month may write.
-use Prim.Native.Nat.{ℕ, zero, suc, _+_, _*_, _≤_}
+-- A statement that was judged: refused, it changes nothing.
+-- Accepted, it may write, and what it writes is what a statement promises.
+use Prim.Native.Nat.{ℕ, _+_, _≤_}
 use native.Mathlib.Omega.{arith}
-use native.Mathlib.Nat.{mul-le-mul, not-suc-le-zero, le-of-suc-le-suc}
 use mathlib.Core.Path.{_≡_, refl, sym, ap, _∙_}
-use mathlib.Core.Bool.{false, _&&_}
-use mathlib.Core.List.{List, [], _∷_, _++_, map}
-use borrow.Author.Tests.{le-ltb, ltb-false}
-use lib.Dec.{ltb}
+use mathlib.Core.List.{List, _++_, map}
+use borrow.Author.Tests.{ltb-false}
 use lib.IntN.{ℤ, pos}
 use lib.ListN.{length, take, drop, length-map}
 use lib.Seq.{length-take-le, take-all}
-use lib.Signed.{ltZ}
-use Rattle.ints.specs.Range.{eqZ}
-use Rattle.ints.specs.Sums.{sumℤ}
+use Rattle.rules.specs.declared.Answer.{Answer}
 use Rattle.rules.specs.declared.Answer.the-variants.{Accepted, Refused}
 use Rattle.rules.specs.declared.Ledger.{Ledger}
+use Rattle.rules.specs.declared.MonthLine.{MonthLine}
 use Rattle.rules.specs.declared.Point.{Point}
-use Rattle.rules.specs.Verdict.{Verdict, accepted, refused, when, _then_, eachLine}
-use Rattle.rules.specs.Lines.{Agent, User, Lines, agentOf, userOf, pointOf, badAmount, badPoint, monthLines}
-use Rattle.rules.specs.Charges.{EUSTs, pvTotal, VDs}
-use Rattle.rules.specs.Credits.{SMSE}
-use Rattle.rules.specs.Refusals.{State, Lengths, badCounts, shortSlices, badMonth, creditTest, agentTest, userTest, pointTest, lineTests, sumTests, refusal}
-use Rattle.rules.specs.Calls.{stateOf, ifAccepted}
-use Rattle.rules.proofs.Tests.{then-accepted, when-accepted, when-then}
-use Rattle.rules.proofs.Passed.{Passed, passed}
+use Rattle.rules.specs.Verdict.{Verdict, accepted}
+use Rattle.rules.specs.Lines.{Lines, agentOf, userOf, pointOf, monthLines}
+use Rattle.rules.specs.State.{State}
+use Rattle.rules.specs.Refusals.{countTests}
+use Rattle.rules.specs.Calls.{stateOf, verdictOf}
+use Rattle.rules.proofs.Tests.{when-accepted, when-then}
+use Rattle.rules.proofs.Passed.{Passed, passed, slices-accepted}
+use Rattle.rules.proofs.Promise.{by-accepted, by-refused}
 use Rattle.records.specs.Taking.{FirstOf}
-use Rattle.limits.proofs.Laws.{few-counts, then-assoc}
 use Rattle.charges.specs.declared.scan.Sums.{Sums}
-use Rattle.charges.specs.declared.month.Bills.{Bills}
-use Rattle.charges.specs.Scan.{ScanFinds}
-use Rattle.charges.specs.Month.{Billed}
-use Rattle.charges.proofs.Ready.{ready}
-use Rattle.credits.proofs.Tested.{payable-passed}
-use Rattle.closing.specs.Judged.{throughLines}
-use Rattle.closing.proofs.Judging.{Judgeable, passed-7, sums-last}
-use Rattle.statement.specs.Statement.{pointRows, userRows, payeeRows, Rooms, shortRooms, statementRefusal, refusalOf, States}
-use Rattle.statement.specs.Writes.{InRange, Writable, Written}
+use Rattle.charges.specs.Scan.{scanned}
+use Rattle.closing.specs.declared.judge.Judged.{Judged}
+use Rattle.closing.specs.Judged.{Begun, Judges}
+use Rattle.statement.specs.Statement.{RowRooms, shortRooms, shortOf, statingRefusal, States}
+use Rattle.statement.specs.Writes.{linesOf, Statable, StatedRows}
 
--- ---- the verdict
--- 1 and 2, as the code comes to them
-abbrev pub firstTests : State → Rooms → ℕ → ℕ → ℕ → Verdict
-firstTests s n users agents points = when (badCounts s users agents points) 1 0 then shortRooms s n points
+-- 2 of a statement: no slice too short
+record LongEnough (s : State) (n : RowRooms) (count : ℕ) : Type 0 where
+  held : s .users ≤ n .held
+  points : count ≤ n .points
+  users : s .users ≤ n .users
+  payees : s .agents + 1 ≤ n .payees
 
--- cells and work as long as can be
-abbrev pub roomy : ℕ → Lengths
-roomy held = record { held = held; cells = 18446744073709551615; work = 18446744073709551615 }
+long-enough : (s : State) (n : RowRooms) (points : ℕ) → shortRooms s n points ≡ accepted → LongEnough s n points
+unfolding shortRooms
+long-enough s n points e =
+    let a = when-then _ 2 1 _ e in
+    let b = when-then _ 2 2 _ (a .1) in
+    let c = when-then _ 2 3 _ (b .1) in
+    record { held = ltb-false _ _ (a .0); points = ltb-false _ _ (b .0); users = ltb-false _ _ (c .0); payees = ltb-false _ _ (when-accepted _ 2 4 (c .1)) }
 
-module _ (s : State) (n : Rooms) (l : Lines) where
-  abbrev first : Verdict
-  first = firstTests s n (length (l .users)) (length (l .agents)) (length (l .points))
+-- with 1 and 2 tested and the points scanned, the statement may be judged
+pub begun :
+    (g : Ledger) (held : List ℤ) (line : MonthLine) (agents users xs ys zs : List (List ℤ))
+    {points : List Point} {count : ℕ} {ls : List (List ℤ)} {s : Sums} {first : Answer}
+    → FirstOf count points ls
+    → s ≡ scanned (map userOf users) (map pointOf ls)
+    → verdictOf first ≡ countTests (stateOf g held) (shortOf g held xs ys zs count) (length users) (length agents) count
+    → Begun g held (monthLines line agents users points) s first (shortOf g held xs ys zs (length points))
+begun g held line agents users xs ys zs f sums told = record {
+  verdict = rw (length-map users userOf, length-map agents agentOf, sym (f .counted)) told;
+  long-held = λ e. long-enough _ _ _ e .held;
+  sums = sums ∙ ap (scanned (map userOf users)) (f .are);
+}
 
-  -- 3 to 10
-  abbrev others : Verdict
-  others = when (badMonth (s .month) (l .month)) 3 0 then eachLine creditTest 1 (s .credits) then lineTests l then sumTests (s .credits) l
+-- what was found of this statement, whose first points are these lines
+pub record Found (g : Ledger) (held : List ℤ) (line : MonthLine) (agents users xs ys zs : List (List ℤ))
+    (count : ℕ) (ls : List (List ℤ)) (points : List Point) (s : Sums) (r : Judged) : Type 0 where
+  pub firsts : FirstOf count points ls
+  pub sums : s ≡ scanned (map userOf users) (map pointOf ls)
+  pub judged : Judges g held (shortOf g held xs ys zs (length points)) (monthLines line agents users points) r
 
-  pub in-order : statementRefusal s n l ≡ (first then others)
-  unfolding statementRefusal
-  in-order = sym (then-assoc (when (badCounts s (length (l .users)) (length (l .agents)) (length (l .points))) 1 0) (shortRooms s n (length (l .points))) others)
+module _ {g : Ledger} {held : List ℤ} {line : MonthLine} {agents users xs ys zs : List (List ℤ)}
+    {count : ℕ} {ls : List (List ℤ)} {points : List Point} {s : Sums} {r : Judged}
+    (f : Found g held line agents users xs ys zs count ls points s r) where
+  abbrev l : Lines
+  l = monthLines line agents users points
 
-  pub first-refuses : {k p : ℕ} → first ≡ refused k p → statementRefusal s n l ≡ refused k p
-  first-refuses e = in-order ∙ ap (λ (v : Verdict). v then others) e
+  abbrev short : Verdict
+  short = shortOf g held xs ys zs (length points)
 
-  -- what 1 and 2 have shown
-  pub record RoomFor : Type 0 where
-    pub held : s .users ≤ n .held
-    pub points : length (l .points) ≤ n .points
-    pub users : s .users ≤ n .users
-    pub payees : s .agents + 1 ≤ n .payees
+  pub refused-states : {n p : ℕ} → r .verdict ≡ Refused n p → States g held l xs ys zs (record { answer = Refused n p; smse = pos 0 }) xs ys zs
+  refused-states e =
+      by-refused (sym (f .judged .verdict) ∙ ap verdictOf e) (record { stated = refl; point-rows = refl; user-rows = refl; payee-rows = refl })
 
-  module _ (e : first ≡ accepted) where
-    counts : badCounts s (length (l .users)) (length (l .agents)) (length (l .points)) ≡ false
-    counts = when-then _ 1 0 _ e .0
+  module _ (e : r .verdict ≡ Accepted) where
+    -- nothing refuses it
+    passes : statingRefusal g held xs ys zs l ≡ accepted
+    passes = sym (f .judged .verdict) ∙ ap verdictOf e
 
-    pub few-agents : s .agents ≤ 256
-    few-agents = few-counts s _ _ _ counts .1
+    p : Passed (stateOf g held) l
+    p = passed (stateOf g held) short l passes
 
-    rooms : shortRooms s n (length (l .points)) ≡ accepted
-    rooms = when-then (badCounts s (length (l .users)) (length (l .agents)) (length (l .points))) 1 0 _ e .1
+    room : LongEnough (stateOf g held) (record { held = length held; points = length xs; users = length ys; payees = length zs }) (length points)
+    room = long-enough _ _ _ (slices-accepted (stateOf g held) short l passes)
 
-    pub room : RoomFor
-    unfolding shortRooms
-    room =
-        let a = when-then (ltb (n .held) (s .users)) 2 1 _ rooms in
-        let b = when-then (ltb (n .points) (length (l .points))) 2 2 _ (a .1) in
-        let c = when-then (ltb (n .users) (s .users)) 2 3 _ (b .1) in
-        record {
-          held = ltb-false _ _ (a .0);
-          points = ltb-false _ _ (b .0);
-          users = ltb-false _ _ (c .0);
-          payees = ltb-false _ _ (when-accepted (ltb (n .payees) (s .agents + 1)) 2 4 (c .1));
-        }
-
-    -- closing's 2 with room for cells and work looks at the held credits alone
-    enough : shortSlices s (roomy (n .held)) ≡ accepted
-    unfolding shortSlices
-    enough =
-        let few = few-counts s _ _ _ counts in
-        let j : s .agents + 1 ≤ 257 = omega (arith, few .1) in
-        let small : (s .agents + 1) * s .users ≤ 257 * 512 = mul-le-mul j (few .0) in
-        let cells : (s .agents + 1) * s .users ≤ 18446744073709551615 = omega arith in
-        let work : 2 * ((s .agents + 1) * s .users) + 4 * (s .agents + 1 + s .users) ≤ 18446744073709551615 = omega arith in
-        rw (le-ltb _ _ (room .held), le-ltb _ _ cells, le-ltb _ _ work)
-
-    -- so that what refuses a statement from there on is what refuses a closing
-    pub as-closing : statementRefusal s n l ≡ refusal s (roomy (n .held)) l
-    unfolding refusal
-    as-closing = in-order ∙ ap (λ (v : Verdict). v then others) e ∙ sym (rw (counts, enough))
-
--- ---- the promise, by cases
-module _ (g : Ledger) (held : List ℤ) (l : Lines) (points users payees : List (List ℤ)) where
-  pub states-refused : {k p : ℕ} → refusalOf g held points users payees l ≡ refused k p → States g held l points users payees (record { answer = Refused k p; smse = pos 0 }) points users payees
-  states-refused e = record {
-    verdict = sym e;
-    balance = sym (ap (λ (v : Verdict). ifAccepted v (SMSE (take (g .users) held) l) (pos 0)) e);
-    point-rows = sym (ap (λ (v : Verdict). ifAccepted v (pointRows l ++ drop (length (l .points)) points) points) e);
-    user-rows = sym (ap (λ (v : Verdict). ifAccepted v (userRows (take (g .users) held) l ++ drop (length (l .users)) users) users) e);
-    payee-rows = sym (ap (λ (v : Verdict). ifAccepted v (payeeRows (take (g .users) held) l ++ drop (length (l .agents) + 1) payees) payees) e);
-  }
-
-  pub states-accepted :
-      {balance : ℤ} {points′ users′ payees′ : List (List ℤ)}
-      → refusalOf g held points users payees l ≡ accepted
-      → Written (take (g .users) held) l balance points′ users′ payees′
-      → States g held l points users payees (record { answer = Accepted; smse = balance }) (points′ ++ drop (length (l .points)) points) (users′ ++ drop (length (l .users)) users) (payees′ ++ drop (length (l .agents) + 1) payees)
-  states-accepted e w = record {
-    verdict = sym e;
-    balance = w .SMSE-is ∙ sym (ap (λ (v : Verdict). ifAccepted v (SMSE (take (g .users) held) l) (pos 0)) e);
-    point-rows = ap (λ (rows : List (List ℤ)). rows ++ drop (length (l .points)) points) (w .points) ∙ sym (ap (λ (v : Verdict). ifAccepted v (pointRows l ++ drop (length (l .points)) points) points) e);
-    user-rows = ap (λ (rows : List (List ℤ)). rows ++ drop (length (l .users)) users) (w .users) ∙ sym (ap (λ (v : Verdict). ifAccepted v (userRows (take (g .users) held) l ++ drop (length (l .users)) users) users) e);
-    payee-rows = ap (λ (rows : List (List ℤ)). rows ++ drop (length (l .agents) + 1) payees) (w .payees) ∙ sym (ap (λ (v : Verdict). ifAccepted v (payeeRows (take (g .users) held) l ++ drop (length (l .agents) + 1) payees) payees) e);
-  }
-
--- ---- an accepted month
--- its points are in their ranges
-in-ranges : (users : List User) (k : ℕ) (points : List (List ℤ)) → eachLine (pointTest users) k (map pointOf points) ≡ accepted → InRange points
-unfolding eachLine
-in-ranges users k [] t i h = absurd (not-suc-le-zero h)
-in-ranges users k (l ∷ ls) t zero h = when-then (badPoint (pointOf l)) 5 k _ (then-accepted (pointTest users k (pointOf l)) _ t .0) .0
-in-ranges users k (l ∷ ls) t (suc i) h = in-ranges users (suc k) ls (then-accepted (pointTest users k (pointOf l)) _ t .1) i (le-of-suc-le-suc h)
-
-module _ (g : Ledger) (held : List ℤ) (month ons : ℤ) (agents users : List (List ℤ)) (count : ℕ) (s : Sums) (points : List Point) where
-  abbrev lines : Lines
-  lines = monthLines month ons agents users points
-
-  module _ (f : ScanFinds users count s points) (e : refusal (stateOf g held) (roomy (length held)) lines ≡ accepted) where
-    p : Passed (stateOf g held) (roomy (length held)) lines
-    p = passed (stateOf g held) (roomy (length held)) lines e
-
-    pub user-count : length users ≡ g .users
+    user-count : length users ≡ g .users
     user-count = sym (length-map users userOf) ∙ p .users
 
-    pub agent-count : length agents ≡ g .agents
+    agent-count : length agents ≡ g .agents
     agent-count = sym (length-map agents agentOf) ∙ p .agents
 
-    through : (throughLines (stateOf g held) (roomy (length held)) month ons agents users points ≡ accepted) × (sumTests (take (g .users) held) lines ≡ accepted)
-    through = then-accepted _ _ (sums-last (stateOf g held) (roomy (length held)) month ons agents users points _ refl ∙ e)
+    pub few-agents : length agents ≤ 256
+    few-agents = omega (arith, agent-count, p .few-agents)
 
-    tested : Judgeable g month ons held agents users s points
-    tested = passed-7 g held 18446744073709551615 18446744073709551615 month ons agents users count s points f (through .0)
+    pub held-reach : length users ≤ length held
+    held-reach = omega (arith, user-count, room .held)
 
-    nine : (ltZ (pos 0) (pvTotal lines) && eqZ (sumℤ (EUSTs lines)) (pos 0)) ≡ false
-    unfolding sumTests
-    nine =
-        let a = when-then (eqZ (sumℤ (map (λ (a : Agent). a .pb) (map agentOf agents))) (pos 0)) 8 0 _ (through .1) in
-        when-then (ltZ (pos 0) (pvTotal lines) && eqZ (sumℤ (EUSTs lines)) (pos 0)) 9 0 (when (eqZ (sumℤ (VDs (take (g .users) held) lines)) (pos 0)) 10 0) (a .1) .0
+    pub points-reach : count ≤ length xs
+    points-reach = omega (arith, f .firsts .counted, room .points)
 
-    points-passed : eachLine (pointTest (map userOf users)) 1 points ≡ accepted
-    unfolding lineTests
-    points-passed =
-        let a = when-then (badAmount ons) 5 0 _ (tested .passed .tests .lines-passed) in
-        let b = then-accepted (eachLine agentTest 1 (map agentOf agents)) _ (a .1) in
-        then-accepted (eachLine userTest 1 (map userOf users)) _ (b .1) .1
+    pub users-reach : length users ≤ length ys
+    users-reach = omega (arith, user-count, room .users)
 
-    credit-count : length (take (g .users) held) ≡ g .users
-    credit-count = length-take-le (g .users) held (p .held)
+    pub payees-reach : length agents + 1 ≤ length zs
+    payees-reach = omega (arith, agent-count, room .payees)
 
     -- no more than 1,024, so that their lines are all there
-    pub all-there : (ls : List (List ℤ)) → FirstOf count points ls → points ≡ map pointOf ls
-    all-there ls h = sym (h .are ∙ take-all 1024 points (p .few-points))
+    all-there : map pointOf ls ≡ points
+    all-there = f .firsts .are ∙ take-all 1024 points (p .few-points)
 
-    pub writable :
-        (ls : List (List ℤ)) (bills : Bills) (point-rows user-rows payee-rows : List (List ℤ))
-        → FirstOf count points ls
-        → Billed users (take (g .users) held) lines bills
-        → length points ≤ length point-rows
-        → g .users ≤ length user-rows
-        → g .agents + 1 ≤ length payee-rows
-        → Writable month ons agents users (take (length users) held) ls s bills (take count point-rows) (take (length users) user-rows) (take (length agents + 1) payee-rows)
-    writable ls bills point-rows user-rows payee-rows h b hp hu hy =
-        let all = all-there ls h in
-        let t = tested .passed in
-        record {
-          in-range = in-ranges (map userOf users) 1 ls (rw (sym all) points-passed);
-          point-count = rw (f .counted) (length-take-le _ point-rows hp ∙ ap length all ∙ length-map ls pointOf);
-          user-count = length-take-le _ user-rows (omega (arith, user-count));
-          payee-count = length-take-le _ payee-rows (omega (arith, agent-count));
-          owed = rw (sym all) (record { month = rw (t .sums) (ready month ons agents users points (take (length users) held) (t .tests) nine); billed = rw user-count b });
-          payable = rw (sym all, user-count) (payable-passed (stateOf g held) (roomy (length held)) lines credit-count p);
-        }
+    pub may-write :
+        Statable line agents users (take (length users) held) ls s (r .bills)
+        (take count xs) (take (length users) ys) (take (length agents + 1) zs) (stateOf g held) short
+    may-write = record {
+      accepts = rw all-there passes;
+      one-each = length-take-le (g .users) held (room .held);
+      held-are = ap (λ (k : ℕ). take k held) user-count;
+      sums = f .sums;
+      billed = rw all-there (rw (length-map users userOf) at (f .judged .bills passes));
+      point-count = length-take-le count xs points-reach ∙ f .firsts .counted ∙ ap length (sym all-there) ∙ length-map ls pointOf;
+      user-count = length-take-le _ ys users-reach;
+      payee-count = length-take-le _ zs payees-reach;
+    }
+
+    pub accepted-states :
+        {balance : ℤ} {xs′ ys′ zs′ : List (List ℤ)}
+        → StatedRows (stateOf g held) (linesOf line agents users ls) balance xs′ ys′ zs′
+        → States g held l xs ys zs (record { answer = Accepted; smse = balance })
+        (xs′ ++ drop count xs)
+        (ys′ ++ drop (length users) ys)
+        (zs′ ++ drop (length agents + 1) zs)
+    accepted-states {balance} {xs′} {ys′} {zs′} w =
+        let t : StatedRows (stateOf g held) l balance xs′ ys′ zs′ = rw all-there at w in
+        by-accepted passes
+        (record {
+          stated = ap (λ (b : ℤ). record { answer = Accepted; smse = b }) (t .SMSE-is);
+          point-rows = rw (t .points, f .firsts .counted);
+          user-rows = rw (t .users, length-map users userOf);
+          payee-rows = rw (t .payees, length-map agents agentOf);
+        })

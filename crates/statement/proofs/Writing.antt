@@ -1,44 +1,59 @@
--- What is written are the rows of the statement.
-use Prim.Native.Nat.{ℕ, suc, _+_, _<_}
-use native.Mathlib.Omega.{arith}
-use mathlib.Core.Path.{_≡_, refl, ap, ap₂, _∙_}
-use mathlib.Core.List.{List, [], _∷_, _++_, map}
+-- A month that nothing refuses has what the rows of its points, its users and its payees ask.
+use Prim.Native.Nat.{suc}
+use mathlib.Core.Path.{_≡_}
+use mathlib.Core.Bool.{false, _&&_}
+use mathlib.Core.List.{List, [], map}
 use lib.IntN.{ℤ, pos}
-use lib.ListN.{length, length-append, List·getD-append}
+use lib.ListN.{length, getD, length-map}
+use lib.Signed.{ltZ}
+use Rattle.ints.specs.Range.{eqZ}
 use Rattle.ints.specs.Sums.{sumℤ}
-use Rattle.share.specs.Running.{runningShare}
-use Rattle.rules.specs.Lists.{eachFrom}
-use Rattle.rules.specs.Lines.{Agent, Lines}
-use Rattle.rules.specs.Charges.{VDs}
-use Rattle.rules.specs.Credits.{ownCredits, SMSE, VMANTs, VCs}
-use Rattle.rules.proofs.Sizes.{length-VCs}
-use Rattle.credits.specs.Payable.{balanceOf, agentVCs}
-use Rattle.statement.specs.Statement.{agentRowsOf, onsRow, payeeRows}
+use Rattle.rules.specs.declared.MonthLine.{MonthLine}
+use Rattle.rules.specs.Verdict.{Verdict}
+use Rattle.rules.specs.Lists.{getD-map}
+use Rattle.rules.specs.Lines.{Lines, agentOf, userOf, pointOf, badPoint}
+use Rattle.rules.specs.State.{State}
+use Rattle.rules.specs.Charges.{pvs, pvTotal, EUSTs}
+use Rattle.rules.specs.Credits.{pbs}
+use Rattle.rules.specs.Refusals.{pointTest, countTests, stateTests, linesBeforePoints, lineTests, weightTests, sumTests, refusal}
+use Rattle.rules.specs.Tested.{Tested}
+use Rattle.rules.proofs.Tests.{then-accepted, when-accepted, when-then, each-from-1}
+use Rattle.rules.proofs.Passed.{passed, tested}
+use Rattle.charges.specs.declared.scan.Sums.{Sums}
+use Rattle.charges.specs.declared.month.Bills.{Bills}
+use Rattle.charges.specs.Month.{Month, firstUses, firstOverruns}
+use Rattle.charges.proofs.Ready.{ready}
+use Rattle.credits.specs.Payable.{Payable}
+use Rattle.credits.proofs.Tested.{payable-passed}
+use Rattle.statement.specs.Writes.{InRange, linesOf, Statable}
 
--- ---- the payees
-each-same : {A B : Type 0} (k : ℕ) (f g : ℕ → A → B) (xs : List A) → ((i : ℕ) (x : A) → i < length xs → f (k + i) x ≡ g (k + i) x) → eachFrom k f xs ≡ eachFrom k g xs
-unfolding eachFrom
-each-same k f g [] h = refl
-each-same k f g (x ∷ xs) h =
-    ap₂ _∷_ (ap (λ (n : ℕ). f n x) (omega arith) ∙ h 0 x (omega arith) ∙ ap (λ (n : ℕ). g n x) (omega arith))
-    (each-same (suc k) f g xs (λ i y l. ap (λ (n : ℕ). f n y) (omega arith) ∙ h (suc i) y (omega arith) ∙ ap (λ (n : ℕ). g n y) (omega arith)))
+module _ {line : MonthLine} {agents users : List (List ℤ)} {held : List ℤ} {points : List (List ℤ)}
+    {s : Sums} {bills : Bills} {xs ys zs : List (List ℤ)} {st : State} {short : Verdict}
+    (w : Statable line agents users held points s bills xs ys zs st short) where
+  abbrev l : Lines
+  l = linesOf line agents users points
 
--- an agent's row has nothing of the entry after the agents', which is ONS's
-agents-only : (month : ℤ) (vmant vc rest : List ℤ) (agents : List Agent) → length vc ≡ length agents → agentRowsOf month vmant vc agents ≡ agentRowsOf month vmant (vc ++ rest) agents
-unfolding agentRowsOf
-agents-only month vmant vc rest agents e =
-    each-same 0 _ _ agents (λ i a h. rw (List·getD-append vc rest (pos 0) (0 + i) (omega arith)))
+  tests : Tested st l
+  tests = tested st short l (w .accepts) (w .one-each)
 
-module _ (credits : List ℤ) (l : Lines) where
-  pub balance-is : balanceOf (l .month) (l .ons) (sumℤ (VDs credits l)) (l .agents) ≡ SMSE credits l
-  unfolding SMSE ownCredits balanceOf
-  balance-is = refl
+  nine : (ltZ (pos 0) (pvTotal l) && eqZ (sumℤ (EUSTs l)) (pos 0)) ≡ false
+  unfolding refusal sumTests
+  nine =
+      let a = then-accepted (countTests st short (length (l .users)) (length (l .agents)) (length (l .points))) _ (w .accepts) in
+      let b = then-accepted (stateTests st line) _ (a .1) in
+      let c = then-accepted (lineTests l) _ (b .1) in
+      let d = then-accepted (weightTests (sumℤ (pbs (map agentOf agents))) (pvTotal l) (sumℤ (EUSTs l))) _ (c .1) in
+      when-accepted _ 9 0 (when-then (eqZ (sumℤ (pbs (map agentOf agents))) (pos 0)) 8 0 _ (d .0) .1)
 
-  pub payee-rows-are :
-      agentRowsOf (l .month) (runningShare (balanceOf (l .month) (l .ons) (sumℤ (VDs credits l)) (l .agents)) (map (λ (a : Agent). a .pb) (l .agents))) (agentVCs (l .month) (l .ons) (sumℤ (VDs credits l)) (l .agents)) (l .agents) ++ onsRow (l .ons) ∷ []
-      ≡ payeeRows credits l
-  unfolding payeeRows VCs VMANTs SMSE ownCredits balanceOf agentVCs
-  payee-rows-are =
-      let vc = agentVCs (l .month) (l .ons) (sumℤ (VDs credits l)) (l .agents) in
-      let long : length vc ≡ length (l .agents) = omega (arith, length-VCs credits l, length-append vc (l .ons ∷ [])) in
-      ap (λ (rows : List (List ℤ)). rows ++ onsRow (l .ons) ∷ []) (agents-only (l .month) (VMANTs credits l) vc (l .ons ∷ []) (l .agents) long)
+  pub in-range : InRange points
+  unfolding lineTests
+  in-range i h =
+      let t = then-accepted (linesBeforePoints line (map agentOf agents) (map userOf users)) _ (tests .lines) .1 in
+      let p = each-from-1 (pointTest (map userOf users)) (map pointOf points) (pointOf []) t i (rw length-map h) in
+      rw (getD-map pointOf points i [] (pointOf []) h) at (when-then (badPoint (getD (map pointOf points) i (pointOf []))) 5 (suc i) _ p .0)
+
+  pub month : Month users (firstUses users s) (firstOverruns users s) (sumℤ (pvs (map agentOf agents))) held st l
+  month = rw (w .sums) (ready st line agents users (map pointOf points) tests (w .held-are) nine)
+
+  pub payable : Payable (bills .total) line (map agentOf agents)
+  payable = rw (w .billed .total) (payable-passed st l (w .one-each) (passed st short l (w .accepts)))

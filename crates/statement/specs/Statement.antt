@@ -5,17 +5,21 @@ use mathlib.Core.Path.{_≡_}
 use mathlib.Core.List.{List, [], _∷_, _++_, map}
 use lib.Dec.{ltb}
 use lib.IntN.{ℤ, pos}
-use lib.ListN.{length, take, drop, getD}
-use Rattle.rules.specs.declared.Point.{Point}
+use lib.ListN.{length, drop, getD}
+use Rattle.ints.specs.Sums.{sumℤ}
+use Rattle.rules.specs.declared.Answer.the-variants.{Accepted, Refused}
 use Rattle.rules.specs.declared.Ledger.{Ledger}
-use Rattle.rules.specs.Verdict.{Verdict, when, _then_, eachLine}
+use Rattle.rules.specs.declared.MonthLine.{MonthLine}
+use Rattle.rules.specs.declared.Point.{Point}
+use Rattle.rules.specs.Verdict.{Verdict, when, _then_, ByVerdict}
 use Rattle.rules.specs.Lists.{eachFrom}
 use Rattle.rules.specs.Calendar.{cycleMonth}
 use Rattle.rules.specs.Lines.{Agent, User, Lines, kindOf}
-use Rattle.rules.specs.Charges.{useCharge, overrun, overruns, EUSTs, VMEs, CPVs, ns, VDs, newCredits}
-use Rattle.rules.specs.Credits.{VMST, VMPA, VMANTs, VCs, SMSE}
-use Rattle.rules.specs.Refusals.{State, badCounts, badMonth, creditTest, lineTests, sumTests}
-use Rattle.rules.specs.Calls.{stateOf, verdictOf, ifAccepted}
+use Rattle.rules.specs.State.{State}
+use Rattle.rules.specs.Charges.{useCharge, overrun, overrunSums, EUSTs, VMEs, CPVs, ns, VDs, newCredits}
+use Rattle.rules.specs.Credits.{VMST, VMPA, SMSE, VMANTsFrom, agentVCsFrom}
+use Rattle.rules.specs.Refusals.{refusal}
+use Rattle.rules.specs.Calls.{stateOf}
 use Rattle.statement.specs.declared.Stated.{Stated}
 
 -- ---- the rows
@@ -36,9 +40,8 @@ userRowsOf EUST overruns VME CPV before n VD after users =
     eachFrom 0 (λ i u. at EUST i ∷ at overruns i ∷ u .ret ∷ at VME i ∷ at CPV i ∷ at before i ∷ at n i ∷ at VD i ∷ at after i ∷ []) users
 
 -- EUST, overruns, ret, VME, CPV (1.2.1.1.2), held credit before, n, debit VD, held credit after (1.2.2)
-unfoldable pub userRows : List ℤ → Lines → List (List ℤ)
-userRows credits l =
-    userRowsOf (EUSTs l) (eachFrom 1 (overruns (l .points)) (l .users)) (VMEs l) (CPVs l) credits (ns credits l) (VDs credits l) (newCredits credits l) (l .users)
+unfoldable pub userRows : State → Lines → List (List ℤ)
+userRows s l = userRowsOf (EUSTs l) (overrunSums l) (VMEs l) (CPVs l) (s .credits) (ns s l) (VDs s l) (newCredits s l) (l .users)
 
 -- an agent: VMST, VMPA, VMANT, ret, credit VC (6)
 unfoldable pub agentRowsOf : ℤ → (VMANT VC : List ℤ) → List Agent → List (List ℤ)
@@ -49,13 +52,17 @@ agentRowsOf month VMANT VC agents =
 abbrev pub onsRow : ℤ → List ℤ
 onsRow ons = pos 0 ∷ pos 0 ∷ pos 0 ∷ pos 0 ∷ ons ∷ []
 
--- the agents in order, and then ONS
-unfoldable pub payeeRows : List ℤ → Lines → List (List ℤ)
-payeeRows credits l = agentRowsOf (l .month) (VMANTs credits l) (VCs credits l) (l .agents) ++ onsRow (l .ons) ∷ []
+-- the agents in order, and then ONS; from the sum of VD, and of a month on a state
+unfoldable pub payeeRowsFrom : ℤ → MonthLine → List Agent → List (List ℤ)
+payeeRowsFrom debits line agents =
+    agentRowsOf (line .month) (VMANTsFrom debits line agents) (agentVCsFrom debits line agents) agents ++ onsRow (line .ons) ∷ []
+
+abbrev pub payeeRows : State → Lines → List (List ℤ)
+payeeRows s l = payeeRowsFrom (sumℤ (VDs s l)) (l .line) (l .agents)
 
 -- ---- why it comes back
 -- the lengths of the slices that a statement is lent: held credits, and the rows of points, users and payees
-pub record Rooms : Type 0 where
+pub record RowRooms : Type 0 where
   pub held : ℕ
   pub points : ℕ
   pub users : ℕ
@@ -63,36 +70,41 @@ pub record Rooms : Type 0 where
 
 -- 2: a slice too short; place 1 held, 2 the points' rows, 3 the users', 4 the payees', the lowest that is. The last count is that of
 -- point lines
-unfoldable pub shortRooms : State → Rooms → ℕ → Verdict
+unfoldable pub shortRooms : State → RowRooms → ℕ → Verdict
 shortRooms s n points =
     when (ltb (n .held) (s .users)) 2 1
     then when (ltb (n .points) points) 2 2
     then when (ltb (n .users) (s .users)) 2 3
     then when (ltb (n .payees) (s .agents + 1)) 2 4
 
+-- on this ledger and these slices, with so many points
+abbrev pub shortOf : Ledger → List ℤ → (points users payees : List (List ℤ)) → ℕ → Verdict
+shortOf g held points users payees count =
+    shortRooms (stateOf g held) (record { held = length held; points = length points; users = length users; payees = length payees }) count
+
 -- closing's refusals in their order, but with this 2
-unfoldable pub statementRefusal : State → Rooms → Lines → Verdict
-statementRefusal s n l =
-    when (badCounts s (length (l .users)) (length (l .agents)) (length (l .points))) 1 0
-    then shortRooms s n (length (l .points))
-    then when (badMonth (s .month) (l .month)) 3 0
-    then eachLine creditTest 1 (s .credits)
-    then lineTests l
-    then sumTests (s .credits) l
+abbrev pub statingRefusal : Ledger → List ℤ → (points users payees : List (List ℤ)) → Lines → Verdict
+statingRefusal g held points users payees l = refusal (stateOf g held) (shortOf g held points users payees (length (l .points))) l
 
-abbrev pub roomsOf : List ℤ → (points users payees : List (List ℤ)) → Rooms
-roomsOf held points users payees = record { held = length held; points = length points; users = length users; payees = length payees }
+-- ---- stating the month l on this ledger and these held credits answered r and left the slices of rows so
+-- accepted: the balance, and every row; entries beyond stay
+pub record StatedMonth (g : Ledger) (held : List ℤ) (l : Lines) (points users payees : List (List ℤ))
+    (r : Stated) (points′ users′ payees′ : List (List ℤ)) : Type 0 where
+  pub stated : r ≡ record { answer = Accepted; smse = SMSE (stateOf g held) l }
+  pub point-rows : points′ ≡ pointRows l ++ drop (length (l .points)) points
+  pub user-rows : users′ ≡ userRows (stateOf g held) l ++ drop (length (l .users)) users
+  pub payee-rows : payees′ ≡ payeeRows (stateOf g held) l ++ drop (length (l .agents) + 1) payees
 
--- on this ledger and these slices
-abbrev pub refusalOf : Ledger → List ℤ → (points users payees : List (List ℤ)) → Lines → Verdict
-refusalOf g held points users payees l = statementRefusal (stateOf g held) (roomsOf held points users payees) l
+-- refused with n and p: no balance, and everything as it was
+pub record NotStated (points users payees : List (List ℤ)) (r : Stated) (points′ users′ payees′ : List (List ℤ)) (n p : ℕ) : Type 0 where
+  pub stated : r ≡ record { answer = Refused n p; smse = pos 0 }
+  pub point-rows : points′ ≡ points
+  pub user-rows : users′ ≡ users
+  pub payee-rows : payees′ ≡ payees
 
--- ---- the call
--- stating the month l on this ledger and these held credits answered r and left the slices of rows so: entries beyond the rows stay;
--- a refused statement changes nothing
-pub record States (g : Ledger) (held : List ℤ) (l : Lines) (points users payees : List (List ℤ)) (r : Stated) (points′ users′ payees′ : List (List ℤ)) : Type 0 where
-  pub verdict : verdictOf (r .answer) ≡ refusalOf g held points users payees l
-  pub balance : r .smse ≡ ifAccepted (refusalOf g held points users payees l) (SMSE (take (g .users) held) l) (pos 0)
-  pub point-rows : points′ ≡ ifAccepted (refusalOf g held points users payees l) (pointRows l ++ drop (length (l .points)) points) points
-  pub user-rows : users′ ≡ ifAccepted (refusalOf g held points users payees l) (userRows (take (g .users) held) l ++ drop (length (l .users)) users) users
-  pub payee-rows : payees′ ≡ ifAccepted (refusalOf g held points users payees l) (payeeRows (take (g .users) held) l ++ drop (length (l .agents) + 1) payees) payees
+abbrev pub States :
+    Ledger → List ℤ → Lines → (points users payees : List (List ℤ)) → Stated → (points′ users′ payees′ : List (List ℤ)) → Type 0
+States g held l points users payees r points′ users′ payees′ =
+    ByVerdict (statingRefusal g held points users payees l)
+    (StatedMonth g held l points users payees r points′ users′ payees′)
+    (NotStated points users payees r points′ users′ payees′)

@@ -1,22 +1,23 @@
 // The statement of a month: every charge and every credit that stands behind its table of cells (paper 01, "Charges of a user" and
 // "Credits of a payee"). Nothing is closed by it: ledger and held credits stay as they are.
+pub mod columns;
 mod payees;
 mod points;
 mod users;
 
 ghost use mathlib.Core.Path.{_≡_};
 ghost use mathlib.Core.List.{List, map};
-ghost use lib.IntN.{ℤ, pos};
+ghost use lib.IntN.{ℤ};
 ghost use lib.ListN.{length};
-ghost use Rattle.rules.specs.declared.Answer.the-variants.{Refused};
 ghost use Rattle.rules.specs.declared.Point.{Point};
-ghost use Rattle.rules.specs.Verdict.{when, _then_};
+ghost use Rattle.rules.specs.Verdict.{Verdict};
 ghost use Rattle.rules.specs.Lines.{pointOf, monthLines};
-ghost use Rattle.rules.specs.Refusals.{badCounts};
+ghost use Rattle.rules.specs.State.{State};
+ghost use Rattle.rules.specs.Refusals.{countTests};
 ghost use Rattle.rules.specs.Calls.{stateOf, verdictOf};
-ghost use Rattle.statement.specs.Statement.{shortRooms, States};
 ghost use Rattle.records.specs.Taking.{Takes, FirstOf};
-ghost use Rattle.statement.specs.Writes.{Writable, Written};
+ghost use Rattle.statement.specs.Statement.{shortRooms, States};
+ghost use Rattle.statement.specs.Writes.{linesOf, Statable, StatedRows};
 use charges::month::Bills;
 use charges::scan::Sums;
 use rules::AgentLine;
@@ -27,23 +28,17 @@ use rules::Point;
 use rules::PointLine;
 use rules::UserLine;
 
+// A point's, a user's and a payee's row: its amounts in the order that `columns` names.
+pub type PointRow = [i64; 2];
+
+pub type UserRow = [i64; 9];
+
+pub type PayeeRow = [i64; 5];
+
 // The answer, with the balance SMSE of an accepted month, 0 of a refused one.
 pub struct Stated {
     pub answer: Answer,
     pub smse: i64,
-}
-
-// Of cells and work, which only a closing fills: more than any month needs.
-const ROOM: u64 = 18_446_744_073_709_551_615;
-
-// A refusal, with no balance.
-fn refused(number: u64, place: u64) -> Stated
-    ensures { λ r. ⌜ r ≡ record { answer = Refused number place; smse = pos 0 } ⌝ }
-{
-    Stated {
-        answer: Answer::Refused(number, place),
-        smse: 0,
-    }
 }
 
 // 2: the first slice that is too short; month and credits play no part.
@@ -57,7 +52,8 @@ fn short_rooms(
     payee_rows: u64,
 ) -> Answer
     ensures { λ r. ⌜ ((month : ℤ) (credits : List ℤ) → verdictOf r
-        ≡ shortRooms (record { users = users; agents = agents; month = month; credits = credits }) (record { held = held; points = «point_rows»; users = «user_rows»; payees = «payee_rows» }) points) ⌝ }
+        ≡ shortRooms (record { users = users; agents = agents; month = month; credits = credits })
+        (record { held = held; points = «point_rows»; users = «user_rows»; payees = «payee_rows» }) points) ⌝ }
 {
     if held < users {
         return Answer::Refused(2, 1);
@@ -74,8 +70,8 @@ fn short_rooms(
     Answer::Accepted
 }
 
-// 1 and 2: the counts, and the slices. The held credits play no part.
-fn counts_verdict(
+// 1 and 2, of the counts of its lines and the lengths of its slices; the held credits play no part.
+fn stating_verdict(
     ledger: Ledger,
     users: u64,
     agents: u64,
@@ -86,8 +82,9 @@ fn counts_verdict(
     payee_rows: u64,
 ) -> Answer
     ensures { λ r. ⌜ ((credits : List ℤ) → verdictOf r
-        ≡ (when (badCounts (stateOf ledger credits) users agents points) 1 0
-        then shortRooms (stateOf ledger credits) (record { held = held; points = «point_rows»; users = «user_rows»; payees = «payee_rows» }) points)) ⌝ }
+        ≡ countTests (stateOf ledger credits)
+        (shortRooms (stateOf ledger credits) (record { held = held; points = «point_rows»; users = «user_rows»; payees = «payee_rows» }) points)
+        users agents points) ⌝ }
 {
     if limits::counts::bad_counts(ledger, users, agents, points) {
         return Answer::Refused(1, 0);
@@ -113,17 +110,22 @@ fn write(
     points: &[PointLine],
     s: Sums,
     bills: Bills,
-    point_rows: &mut [[i64; 2]],
-    user_rows: &mut [[i64; 9]],
-    payee_rows: &mut [[i64; 5]],
+    point_rows: &mut [PointRow],
+    user_rows: &mut [UserRow],
+    payee_rows: &mut [PayeeRow],
 ) -> i64
-    requires { ⌜ Writable (line .month) (line .ons) (now agents) (now users) (now held) (now points) s bills (now «point_rows») (now «user_rows») (now «payee_rows») ⌝ }
-    ensures { λ r. ⌜ Written (now (held .entry)) (monthLines (line .month) (line .ons) (now (agents .entry)) (now (users .entry)) (map pointOf (now (points .entry)))) r (now («point_rows» .exit)) (now («user_rows» .exit)) (now («payee_rows» .exit)) ⌝ }
+    requires { ⌜ ((st : State) × (short : Verdict)
+        × Statable line (now agents) (now users) (now held) (now points) s bills (now «point_rows») (now «user_rows») (now «payee_rows») st short) ⌝ }
+    ensures { λ r. ⌜ ((st : State) (short : Verdict)
+        → Statable line (now (agents .entry)) (now (users .entry)) (now (held .entry)) (now (points .entry)) s bills
+        (now («point_rows» .entry)) (now («user_rows» .entry)) (now («payee_rows» .entry)) st short
+        → StatedRows st (linesOf line (now (agents .entry)) (now (users .entry)) (now (points .entry))) r
+        (now («point_rows» .exit)) (now («user_rows» .exit)) (now («payee_rows» .exit))) ⌝ }
 {
     points::rows(users, points, point_rows);
     let pv = credits::columns::pv_total(agents);
     users::state_users(users, s, bills, pv, held, user_rows);
-    payees::state_payees(line.month, line.ons, bills.total, agents, payee_rows)
+    payees::state_payees(bills.total, line, agents, payee_rows)
 }
 
 // The month whose first 1,024 points are these lines; n counts all of them.
@@ -135,15 +137,17 @@ fn state_first(
     users: &[UserLine],
     n: usize,
     points: &[PointLine],
-    point_rows: &mut [[i64; 2]],
-    user_rows: &mut [[i64; 9]],
-    payee_rows: &mut [[i64; 5]],
+    point_rows: &mut [PointRow],
+    user_rows: &mut [UserRow],
+    payee_rows: &mut [PayeeRow],
 ) -> Stated
     requires { ⌜ ((all : List Point) × FirstOf n all (now points)) ⌝ }
     ensures { λ r. ⌜ ((all : List Point) → FirstOf n all (now (points .entry))
-        → States ledger (now (held .entry)) (monthLines (line .month) (line .ons) (now (agents .entry)) (now (users .entry)) all) (now («point_rows» .entry)) (now («user_rows» .entry)) (now («payee_rows» .entry)) r (now («point_rows» .exit)) (now («user_rows» .exit)) (now («payee_rows» .exit))) ⌝ }
+        → States ledger (now (held .entry)) (monthLines line (now (agents .entry)) (now (users .entry)) all)
+        (now («point_rows» .entry)) (now («user_rows» .entry)) (now («payee_rows» .entry))
+        r (now («point_rows» .exit)) (now («user_rows» .exit)) (now («payee_rows» .exit))) ⌝ }
 {
-    let first = counts_verdict(
+    let first = stating_verdict(
         ledger,
         users.len() as u64,
         agents.len() as u64,
@@ -153,45 +157,32 @@ fn state_first(
         user_rows.len() as u64,
         payee_rows.len() as u64,
     );
-    match first {
-        Answer::Refused(number, place) => refused(number, place),
+    let s = charges::scan::scan(points, users);
+    let found = closing::judge::judge(first, ledger, held, line, agents, users, s);
+    let verdict = found.verdict;
+    match verdict {
+        Answer::Refused(number, place) => Stated {
+            answer: Answer::Refused(number, place),
+            smse: 0,
+        },
         Answer::Accepted => {
-            let s = charges::scan::scan(points, users);
-            let found = closing::judge::judge(
-                ledger,
-                held,
-                line.month,
-                line.ons,
+            let u = users.len();
+            let m = agents.len() + 1;
+            let smse = write(
+                line,
                 agents,
                 users,
-                n as u64,
+                &held[..u],
+                points,
                 s,
-                ROOM,
-                ROOM,
+                found.bills,
+                &mut point_rows[..n],
+                &mut user_rows[..u],
+                &mut payee_rows[..m],
             );
-            let verdict = found.verdict;
-            match verdict {
-                Answer::Refused(number, place) => refused(number, place),
-                Answer::Accepted => {
-                    let u = users.len();
-                    let m = agents.len() + 1;
-                    let smse = write(
-                        line,
-                        agents,
-                        users,
-                        &held[..u],
-                        points,
-                        s,
-                        found.bills,
-                        &mut point_rows[..n],
-                        &mut user_rows[..u],
-                        &mut payee_rows[..m],
-                    );
-                    Stated {
-                        answer: Answer::Accepted,
-                        smse,
-                    }
-                }
+            Stated {
+                answer: Answer::Accepted,
+                smse,
             }
         }
     }
@@ -205,11 +196,13 @@ pub fn state_lines(
     agents: &[AgentLine],
     users: &[UserLine],
     points: &[PointLine],
-    point_rows: &mut [[i64; 2]],
-    user_rows: &mut [[i64; 9]],
-    payee_rows: &mut [[i64; 5]],
+    point_rows: &mut [PointRow],
+    user_rows: &mut [UserRow],
+    payee_rows: &mut [PayeeRow],
 ) -> Stated
-    ensures { λ r. ⌜ States ledger (now (held .entry)) (monthLines (line .month) (line .ons) (now (agents .entry)) (now (users .entry)) (map pointOf (now (points .entry)))) (now («point_rows» .entry)) (now («user_rows» .entry)) (now («payee_rows» .entry)) r (now («point_rows» .exit)) (now («user_rows» .exit)) (now («payee_rows» .exit)) ⌝ }
+    ensures { λ r. ⌜ States ledger (now (held .entry)) (monthLines line (now (agents .entry)) (now (users .entry)) (map pointOf (now (points .entry))))
+        (now («point_rows» .entry)) (now («user_rows» .entry)) (now («payee_rows» .entry))
+        r (now («point_rows» .exit)) (now («user_rows» .exit)) (now («payee_rows» .exit)) ⌝ }
 {
     let n = points.len();
     let k = records::taken_count(n);
@@ -236,13 +229,15 @@ fn state_taken(
     users: &[UserLine],
     n: usize,
     lines: [PointLine; 1024],
-    point_rows: &mut [[i64; 2]],
-    user_rows: &mut [[i64; 9]],
-    payee_rows: &mut [[i64; 5]],
+    point_rows: &mut [PointRow],
+    user_rows: &mut [UserRow],
+    payee_rows: &mut [PayeeRow],
 ) -> Stated
     requires { ⌜ ((points : List Point) × ((n ≡ length points) × Takes points lines)) ⌝ }
     ensures { λ r. ⌜ ((points : List Point) → (n ≡ length points) → Takes points lines
-        → States ledger (now (held .entry)) (monthLines (line .month) (line .ons) (now (agents .entry)) (now (users .entry)) points) (now («point_rows» .entry)) (now («user_rows» .entry)) (now («payee_rows» .entry)) r (now («point_rows» .exit)) (now («user_rows» .exit)) (now («payee_rows» .exit))) ⌝ }
+        → States ledger (now (held .entry)) (monthLines line (now (agents .entry)) (now (users .entry)) points)
+        (now («point_rows» .entry)) (now («user_rows» .entry)) (now («payee_rows» .entry))
+        r (now («point_rows» .exit)) (now («user_rows» .exit)) (now («payee_rows» .exit))) ⌝ }
 {
     let k = records::taken_count(n);
     state_first(
@@ -268,11 +263,13 @@ pub fn state(
     agents: &[AgentLine],
     users: &[UserLine],
     points: &[Point],
-    point_rows: &mut [[i64; 2]],
-    user_rows: &mut [[i64; 9]],
-    payee_rows: &mut [[i64; 5]],
+    point_rows: &mut [PointRow],
+    user_rows: &mut [UserRow],
+    payee_rows: &mut [PayeeRow],
 ) -> Stated
-    ensures { λ r. ⌜ States ledger (now (held .entry)) (monthLines (line .month) (line .ons) (now (agents .entry)) (now (users .entry)) (now (points .entry))) (now («point_rows» .entry)) (now («user_rows» .entry)) (now («payee_rows» .entry)) r (now («point_rows» .exit)) (now («user_rows» .exit)) (now («payee_rows» .exit)) ⌝ }
+    ensures { λ r. ⌜ States ledger (now (held .entry)) (monthLines line (now (agents .entry)) (now (users .entry)) (now (points .entry)))
+        (now («point_rows» .entry)) (now («user_rows» .entry)) (now («payee_rows» .entry))
+        r (now («point_rows» .exit)) (now («user_rows» .exit)) (now («payee_rows» .exit)) ⌝ }
 {
     let n = points.len();
     let lines = records::taken(points);

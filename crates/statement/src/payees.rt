@@ -10,11 +10,13 @@ ghost use Rattle.credits.specs.Columns.{AgentLines};
 ghost use Rattle.credits.specs.Payable.{Payable};
 ghost use Rattle.statement.specs.Statement.{agentRowsOf};
 ghost use Rattle.statement.specs.Columns.{StatesPayees};
+use crate::PayeeRow;
 use rules::AgentLine;
+use rules::MonthLine;
 use rules::columns;
 
 // Writes a row for each agent, from its line and the columns.
-fn rows(month: i64, agents: &[AgentLine], vmant: &[i64], vc: &[i64], out: &mut [[i64; 5]])
+fn rows(month: i64, agents: &[AgentLine], vmant: &[i64], vc: &[i64], out: &mut [PayeeRow])
     requires { ⌜ (impossibleMonth month ≡ false)
         × AgentLines (map agentOf (now agents))
         × (length (now vmant) ≡ length (now agents))
@@ -38,49 +40,41 @@ fn rows(month: i64, agents: &[AgentLine], vmant: &[i64], vc: &[i64], out: &mut [
 // Works out the agents' parts of the balance and their credits, and writes the rows. Every slice has one entry for each agent, `out`
 // one more, for ONS. Answers the balance.
 fn work_out(
-    month: i64,
-    ons: i64,
     debits: i64,
+    line: MonthLine,
     agents: &[AgentLine],
     pb: &mut [i64],
     vmant: &mut [i64],
     vc: &mut [i64],
-    out: &mut [[i64; 5]],
+    out: &mut [PayeeRow],
 ) -> i64
-    requires { ⌜ Payable month ons debits (map agentOf (now agents))
+    requires { ⌜ Payable debits line (map agentOf (now agents))
         × (length (now pb) ≡ length (now agents))
         × (length (now vmant) ≡ length (now agents))
         × (length (now vc) ≡ length (now agents))
         × (length (now out) ≡ length (now agents) + 1) ⌝ }
-    ensures { λ r. ⌜ StatesPayees month ons debits (map agentOf (now (agents .entry))) r (now (out .exit)) ⌝ }
+    ensures { λ r. ⌜ StatesPayees debits line (map agentOf (now (agents .entry))) r (now (out .exit)) ⌝ }
 {
-    let balance = credits::payees::agent_credits(month, ons, debits, agents, pb, vmant, vc);
+    let balance = credits::payees::agent_credits(debits, line, agents, pb, vmant, vc);
     let n = agents.len();
-    rows(month, agents, vmant, vc, &mut out[..n]);
-    let row = [0, 0, 0, 0, ons];
+    rows(line.month, agents, vmant, vc, &mut out[..n]);
+    let row = [0, 0, 0, 0, line.ons];
     out[n] = row;
     balance
 }
 
 // Writes the rows of a month that breaks no limit, `debits` being the sum of what its users owe. Answers the balance.
-pub fn state_payees(
-    month: i64,
-    ons: i64,
-    debits: i64,
-    agents: &[AgentLine],
-    out: &mut [[i64; 5]],
-) -> i64
-    requires { ⌜ Payable month ons debits (map agentOf (now agents)) × (length (now out) ≡ length (now agents) + 1) ⌝ }
-    ensures { λ r. ⌜ StatesPayees month ons debits (map agentOf (now (agents .entry))) r (now (out .exit)) ⌝ }
+pub fn state_payees(debits: i64, line: MonthLine, agents: &[AgentLine], out: &mut [PayeeRow]) -> i64
+    requires { ⌜ Payable debits line (map agentOf (now agents)) × (length (now out) ≡ length (now agents) + 1) ⌝ }
+    ensures { λ r. ⌜ StatesPayees debits line (map agentOf (now (agents .entry))) r (now (out .exit)) ⌝ }
 {
     let n = agents.len();
     let mut pb = [0i64; 256];
     let mut vmant = [0i64; 256];
     let mut vc = [0i64; 256];
     work_out(
-        month,
-        ons,
         debits,
+        line,
         agents,
         &mut pb[..n],
         &mut vmant[..n],

@@ -6,12 +6,13 @@ ghost use lib.ListN.{length};
 ghost use Rattle.rules.specs.Lines.{userOf, pointOf, badPoint};
 ghost use Rattle.statement.specs.Statement.{pointRow};
 ghost use Rattle.statement.specs.Writes.{InRange};
+use crate::PointRow;
 use rules::Point;
 use rules::PointLine;
 use rules::UserLine;
 
 // Use charge and overrun of a point.
-fn row(users: &[UserLine], p: Point) -> [i64; 2]
+fn row(users: &[UserLine], p: Point) -> PointRow
     requires { ⌜ badPoint p ≡ false ⌝ }
     ensures { λ r. ⌜ r ≡ pointRow (map userOf (now (users .entry))) p ⌝ }
 {
@@ -23,7 +24,7 @@ fn row(users: &[UserLine], p: Point) -> [i64; 2]
 }
 
 // Writes a row for each point.
-pub fn rows(users: &[UserLine], points: &[PointLine], out: &mut [[i64; 2]])
+pub fn rows(users: &[UserLine], points: &[PointLine], out: &mut [PointRow])
     requires { ⌜ InRange (now points) × (length (now out) ≡ length (now points)) ⌝ }
     ensures { λ _. ⌜ now (out .exit) ≡ map (pointRow (map userOf (now (users .entry)))) (map pointOf (now (points .entry))) ⌝ }
 {

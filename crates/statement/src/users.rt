@@ -2,9 +2,14 @@
 ghost use mathlib.Core.Path.{_≡_};
 ghost use lib.IntN.{pos};
 ghost use lib.ListN.{length, replicate};
+ghost use Rattle.ints.specs.Sums.{sumℤ};
 ghost use Rattle.rules.specs.Lines.{Lines};
+ghost use Rattle.rules.specs.State.{State};
+ghost use Rattle.rules.specs.Charges.{VDs};
+ghost use Rattle.charges.specs.Month.{Month, Amounts, firstUses, firstOverruns, Billed};
 ghost use Rattle.statement.specs.Statement.{userRows};
-ghost use Rattle.statement.specs.Columns.{UserColumns, userRowsBy, Owed, OwedBy};
+ghost use Rattle.statement.specs.Columns.{UserColumns, userRowsBy};
+use crate::UserRow;
 use charges::month::Bills;
 use charges::scan::Sums;
 use rules::UserLine;
@@ -20,10 +25,11 @@ fn rows(
     held: &[i64],
     debits: &[i64],
     credits: &[i64],
-    out: &mut [[i64; 9]],
+    out: &mut [UserRow],
 )
     requires { ⌜ UserColumns (now users) (now uses) (now overruns) (now vme) (now cpv) (now held) (now debits) (now credits) (now out) ⌝ }
-    ensures { λ _. ⌜ now (out .exit) ≡ userRowsBy (now (users .entry)) (now (uses .entry)) (now (overruns .entry)) (now (vme .entry)) (now (cpv .entry)) (now (held .entry)) (now (debits .entry)) (now (credits .entry)) ⌝ }
+    ensures { λ _. ⌜ now (out .exit) ≡ userRowsBy (now (users .entry)) (now (uses .entry)) (now (overruns .entry)) (now (vme .entry)) (now (cpv .entry))
+        (now (held .entry)) (now (debits .entry)) (now (credits .entry)) ⌝ }
 {
     let n = users.len();
     let mut i = 0;
@@ -57,14 +63,17 @@ fn work_out(
     credits: &[i64],
     vme: &mut [i64],
     cpv: &mut [i64],
-    out: &mut [[i64; 9]],
+    out: &mut [UserRow],
 )
-    requires { ⌜ (((l : Lines) × Owed (now users) (now uses) (now overruns) pv (now held) (now debits) (now credits) l)
+    requires { ⌜ (((st : State) × (l : Lines) × Month (now users) (now uses) (now overruns) pv (now held) st l
+        × Amounts st l (now debits) (now credits) (sumℤ (VDs st l)))
         × (length (now vme) ≡ length (now users))
         × (now cpv ≡ replicate (length (now users)) (pos 0))
         × (length (now out) ≡ length (now users))) ⌝ }
-    ensures { λ _. ⌜ ((l : Lines) → Owed (now (users .entry)) (now (uses .entry)) (now (overruns .entry)) pv (now (held .entry)) (now (debits .entry)) (now (credits .entry)) l
-        → now (out .exit) ≡ userRows (now (held .entry)) l) ⌝ }
+    ensures { λ _. ⌜ ((st : State) (l : Lines)
+        → Month (now (users .entry)) (now (uses .entry)) (now (overruns .entry)) pv (now (held .entry)) st l
+        → Amounts st l (now (debits .entry)) (now (credits .entry)) (sumℤ (VDs st l))
+        → now (out .exit) ≡ userRows st l) ⌝ }
 {
     charges::month::charge(users, uses, overruns, vme);
     charges::month::compensate(pv, uses, cpv);
@@ -78,10 +87,15 @@ pub fn state_users(
     bills: Bills,
     pv: i64,
     held: &[i64],
-    out: &mut [[i64; 9]],
+    out: &mut [UserRow],
 )
-    requires { ⌜ (((l : Lines) × OwedBy (now users) s bills pv (now held) l) × (length (now out) ≡ length (now users))) ⌝ }
-    ensures { λ _. ⌜ ((l : Lines) → OwedBy (now (users .entry)) s bills pv (now (held .entry)) l → now (out .exit) ≡ userRows (now (held .entry)) l) ⌝ }
+    requires { ⌜ (((st : State) × (l : Lines) × Month (now users) (firstUses (now users) s) (firstOverruns (now users) s) pv (now held) st l
+        × Billed (length (now users)) st l bills)
+        × (length (now out) ≡ length (now users))) ⌝ }
+    ensures { λ _. ⌜ ((st : State) (l : Lines)
+        → Month (now (users .entry)) (firstUses (now (users .entry)) s) (firstOverruns (now (users .entry)) s) pv (now (held .entry)) st l
+        → Billed (length (now (users .entry))) st l bills
+        → now (out .exit) ≡ userRows st l) ⌝ }
 {
     let n = users.len();
     let uses = s.uses;

@@ -21,16 +21,18 @@ returns-3 c = λ month credits. rw (le-ltb _ _ (c .before .before .if1 .left), l
 returns-4 : tie.Need-returns-4
 unfolding shortRooms
 returns-4 c =
-    let a = c .before .before .before .before .args in
+    let d = c .before in
+    let a = d .before .before .before .args in
     let h : a .payee-rows < a .agents + 1 = omega arith in
-    λ month credits. rw (le-ltb _ _ (c .before .before .before .if1 .left), le-ltb _ _ (c .before .before .if2 .left), le-ltb _ _ (c .before .if3 .left), lt-ltb _ _ h)
+    λ month credits. rw (le-ltb _ _ (d .before .before .if1 .left), le-ltb _ _ (d .before .if2 .left), le-ltb _ _ (d .if3 .left), lt-ltb _ _ h)
 
 returns-5 : tie.Need-returns-5
 unfolding shortRooms
 returns-5 c =
-    let a = c .before .before .before .before .args in
+    let d = c .before in
+    let a = d .before .before .before .args in
     let h : a .agents + 1 ≤ a .payee-rows = omega arith in
-    λ month credits. rw (le-ltb _ _ (c .before .before .before .if1 .left), le-ltb _ _ (c .before .before .if2 .left), le-ltb _ _ (c .before .if3 .left), le-ltb _ _ h)
+    λ month credits. rw (le-ltb _ _ (d .before .before .if1 .left), le-ltb _ _ (d .before .if2 .left), le-ltb _ _ (d .if3 .left), le-ltb _ _ h)
 
 pub short-rooms-spec : {M : Type 1} → statement M
 short-rooms-spec = tie.close (tie.spec returns returns-2 returns-3 returns-4 returns-5)

@@ -17,7 +17,7 @@ use prog.Wp.{Heap, Env, Calls, Loops, WpFn, Tables}
 use ghost.Atoms.{Atoms}
 use contract.Monad.{Fun}
 use contract.Running.{givenOf, tables, tablesOf}
-use types.Kit.{Given, Item, Sq, runs, atRet, ‵, raw, _⊛_, ⋆, _$_, _∵_, !, qed, by, move, keep, drop, use1, split, pick, fsplit, feqL, suffices, frame, done}
+use types.Kit.{Given, Item, Sq, runs, atRet, ‵, _⊛_, ⋆, _$_, _∵_, !, qed, by, move, keep, drop, use1, split, fsplit, feqL, suffices, frame, done}
 use types.Part.{whole, sub, look-in, agg}
 use types.Run.{look, init, stop, hop, fld, from, load, addr, of-opd, and-then, no-more, assigns, land, returns, enter, alloc1, alloc0, params1, pass1, pass0}
 use sound.WpLaws.{FmC, fmOf, WpFn-mono}
@@ -100,6 +100,10 @@ Rm = L.the-row
 abbrev Ro : RattleType
 Ro = O.the-row
 
+-- the machine value of a lent slice
+abbrev slice : {X : Type 0} → RefT (List X) → Val
+slice s = sliceVal (s .ptr) (length (s .now))
+
 abbrev stayed : Stays (state.ended .signature .params) (state.ended .kept)
 stayed =
     (stay-none (λ _. Rg) yes, (stay-none-slice (0 ∷ []) tt (plain (λ _. i64)) yes, (stay-none (λ _. Rm) yes, (stay-none-slice (1 ∷ []) tt (slot 7) yes, (stay-none-slice (2 ∷ []) tt (slot 3) yes, (stay-none-slice (3 ∷ []) tt (plain (λ _. Rp)) yes, (gave-slice (4 ∷ []) tt (slot 2), (gave-slice (5 ∷ []) tt (slot 9), (gave-slice (6 ∷ []) tt (slot 5), tt)))))))))
@@ -120,7 +124,7 @@ module _ {M : Type 1} (𝓤 : URA M) (H : Heap 𝓤) (A : Atoms 𝓤) (W : Given
     (g : Ledger) (held : RefT (List ℤ)) (line : MonthLine) (agents users : RefT (List (List ℤ))) (points : RefT (List Point)) (xs ys zs : RefT (List (List ℤ))) where
   -- what is promised of the month with these points, in which the answer is r and the rows of points, users and payees are left so
   abbrev Said : List Point → Stated → List (List ℤ) → List (List ℤ) → List (List ℤ) → Type 0
-  Said ps r xs′ ys′ zs′ = States g (held .now) (monthLines (line .month) (line .ons) (agents .now) (users .now) ps) (xs .now) (ys .now) (zs .now) r xs′ ys′ zs′
+  Said ps r xs′ ys′ zs′ = States g (held .now) (monthLines line (agents .now) (users .now) ps) (xs .now) (ys .now) (zs .now) r xs′ ys′ zs′
 
   abbrev n : ℕ
   n = length (points .now)
@@ -133,32 +137,11 @@ module _ {M : Type 1} (𝓤 : URA M) (H : Heap 𝓤) (A : Atoms 𝓤) (W : Given
   abbrev vg : Val
   vg = G′.lowered g
 
-  abbrev vh : Val
-  vh = sliceVal (held .ptr) (length (held .now))
-
   abbrev vl : Val
   vl = L′.lowered line
 
-  abbrev va : Val
-  va = sliceVal (agents .ptr) (length (agents .now))
-
-  abbrev vu : Val
-  vu = sliceVal (users .ptr) (length (users .now))
-
-  abbrev vp : Val
-  vp = sliceVal (points .ptr) n
-
-  abbrev vx : Val
-  vx = sliceVal (xs .ptr) (length (xs .now))
-
-  abbrev vy : Val
-  vy = sliceVal (ys .ptr) (length (ys .now))
-
-  abbrev vz : Val
-  vz = sliceVal (zs .ptr) (length (zs .now))
-
   abbrev vals : Vals state.signature (κh, (κa, (κu, (κp, (κx, (κy, (κz, tt)))))))
-  vals = (vg ∷ [], (vh ∷ [], (vl ∷ [], (va ∷ [], (vu ∷ [], (vp ∷ [], (vx ∷ [], (vy ∷ [], (vz ∷ [], tt)))))))))
+  vals = (vg ∷ [], (slice held ∷ [], (vl ∷ [], (slice agents ∷ [], (slice users ∷ [], (slice points ∷ [], (slice xs ∷ [], (slice ys ∷ [], (slice zs ∷ [], tt)))))))))
 
   abbrev y : walkOf 𝓤 H A state.ended stayed (state.clauses 𝓤 H A mem run) .Ghost
   y = (((κh, (κa, (κu, (κp, (κx, (κy, (κz, tt))))))), (qh, (qa, (qu, (qp, (qx, (qy, (qz, tt))))))), tt, (g, (held, (line, (agents, (users, (points, (xs, (ys, (zs, tt))))))))), vals), tt)
@@ -171,31 +154,26 @@ module _ {M : Type 1} (𝓤 : URA M) (H : Heap 𝓤) (A : Atoms 𝓤) (W : Given
   OwnG = Rg .own g (vg ∷ [])
 
   abbrev OwnH : Fml
-  OwnH = ShrSlice (named 0) κh i64 .own held (vh ∷ [])
+  OwnH = ShrSlice (named 0) κh i64 .own held (slice held ∷ [])
 
   abbrev OwnL : Fml
   OwnL = Rm .own line (vl ∷ [])
 
   abbrev OwnA : Fml
-  OwnA = ShrSlice (named 1) κa Ra .own agents (va ∷ [])
+  OwnA = ShrSlice (named 1) κa Ra .own agents (slice agents ∷ [])
 
   abbrev OwnU : Fml
-  OwnU = ShrSlice (named 2) κu Ru .own users (vu ∷ [])
+  OwnU = ShrSlice (named 2) κu Ru .own users (slice users ∷ [])
 
   abbrev OwnP : Fml
-  OwnP = ShrSlice (named 3) κp Rp .own points (vp ∷ [])
+  OwnP = ShrSlice (named 3) κp Rp .own points (slice points ∷ [])
 
-  abbrev OwnX : Fml
-  OwnX = MutSlice (named 4) κx Rx .own xs (vx ∷ [])
-
-  abbrev OwnY : Fml
-  OwnY = MutSlice (named 5) κy Ry .own ys (vy ∷ [])
-
-  abbrev OwnZ : Fml
-  OwnZ = MutSlice (named 6) κz Rz .own zs (vz ∷ [])
+  -- the slices of rows, lent with these lifetimes' numbers
+  abbrev OwnRows : ℕ → ℕ → ℕ → List Fml
+  OwnRows i j k = MutSlice (named i) κx Rx .own xs (slice xs ∷ []) ∷ MutSlice (named j) κy Ry .own ys (slice ys ∷ []) ∷ MutSlice (named k) κz Rz .own zs (slice zs ∷ []) ∷ []
 
   abbrev Owns : List Fml
-  Owns = OwnG ∷ OwnH ∷ OwnL ∷ OwnA ∷ OwnU ∷ OwnP ∷ OwnX ∷ OwnY ∷ OwnZ ∷ []
+  Owns = OwnG ∷ OwnH ∷ OwnL ∷ OwnA ∷ OwnU ∷ OwnP ∷ OwnRows 4 5 6
 
   -- the tokens: all, and those that `state_taken` is lent by
   abbrev Toks : List (Item 𝓤)
@@ -206,20 +184,20 @@ module _ {M : Type 1} (𝓤 : URA M) (H : Heap 𝓤) (A : Atoms 𝓤) (W : Given
 
   -- what each callee asks, and says
   abbrev to-taken : TakenC 𝓤 H A mem run .Ghost
-  to-taken = (((κp, tt), (qp, tt), tt, (points, tt), (vp ∷ [], tt)), tt)
+  to-taken = (((κp, tt), (qp, tt), tt, (points, tt), (slice points ∷ [], tt)), tt)
 
   abbrev handed : List (List ℤ) → Ledger × (RefT (List ℤ) × (MonthLine × (RefT (List (List ℤ)) × (RefT (List (List ℤ)) × (ℕ × (List (List ℤ) × (RefT (List (List ℤ)) × (RefT (List (List ℤ)) × (RefT (List (List ℤ)) × Unit {0})))))))))
   handed ls = (g, (held, (line, (agents, (users, (n, (ls, (xs, (ys, (zs, tt))))))))))
 
   abbrev passed : Val → Vals rest.signature (κh, (κa, (κu, (κx, (κy, (κz, tt))))))
-  passed v = (vg ∷ [], (vh ∷ [], (vl ∷ [], (va ∷ [], (vu ∷ [], (vint w64 n ∷ [], (v ∷ [], (vx ∷ [], (vy ∷ [], (vz ∷ [], tt))))))))))
+  passed v = (vg ∷ [], (slice held ∷ [], (vl ∷ [], (slice agents ∷ [], (slice users ∷ [], (vint w64 n ∷ [], (v ∷ [], (slice xs ∷ [], (slice ys ∷ [], (slice zs ∷ [], tt))))))))))
 
   abbrev to-rest : List (List ℤ) → Val → RestC 𝓤 H A mem run .Ghost
   to-rest ls v = (((κh, (κa, (κu, (κx, (κy, (κz, tt)))))), (qh, (qa, (qu, (qx, (qy, (qz, tt)))))), tt, handed ls, passed v), tt)
 
   -- what it owns: the last three slices are lent there with the lifetimes after
   abbrev RestOwns : List (List ℤ) → Val → List Fml
-  RestOwns ls v = OwnG ∷ OwnH ∷ OwnL ∷ OwnA ∷ OwnU ∷ usize .own n (vint w64 n ∷ []) ∷ Rls .own ls (v ∷ []) ∷ MutSlice (named 3) κx Rx .own xs (vx ∷ []) ∷ MutSlice (named 4) κy Ry .own ys (vy ∷ []) ∷ MutSlice (named 5) κz Rz .own zs (vz ∷ []) ∷ []
+  RestOwns ls v = OwnG ∷ OwnH ∷ OwnL ∷ OwnA ∷ OwnU ∷ usize .own n (vint w64 n ∷ []) ∷ Rls .own ls (v ∷ []) ∷ OwnRows 3 4 5
 
   -- the last list of a slice, and that it is as long
   abbrev Last : {X : Type 0} (R : RattleType) → RefT X → List (R .Denot) → ℕ → Fml
@@ -261,13 +239,13 @@ module _ {M : Type 1} (𝓤 : URA M) (H : Heap 𝓤) (A : Atoms 𝓤) (W : Given
 
         -- [the seven tokens; what the nine parameters own; the locals at 16]
         abbrev At : List (Item 𝓤)
-        At = Toks ++ items Owns ++ locals E (bare ∷ full vg ∷ full vh ∷ full vl ∷ full va ∷ full vu ∷ full vp ∷ full vx ∷ full vy ∷ full vz ∷ []) []
+        At = Toks ++ items Owns ++ locals E (bare ∷ full vg ∷ full (slice held) ∷ full vl ∷ full (slice agents) ∷ full (slice users) ∷ full (slice points) ∷ full (slice xs) ∷ full (slice ys) ∷ full (slice zs) ∷ []) []
 
         body : Sq W At (runs C Λ E mir.t-1 (atRet E Post))
         body =
             assigns ! (of-opd ! (load ! (from ! (fld ! refl (stop !))) (look-in ! (at 16 6) (sub ! 1 refl (whole !))))) (from ! (stop !)) (init ! (at 16 10) refl (tt, record { fits = gp .0 })) $
             -- the points are had twice, and one copy goes to `taken`
-            move ! (12 ∷ []) $ use1 W (‵ OwnP ⊛ ‵ OwnP) (shr-slice-copy 𝓤 H A W (named 3) κp Rp .twice points (vp ∷ [])) $ split ! $ move ! (5 ∷ 0 ∷ []) $ lends W (‵ (flft κp qp) ∷ []) (OwnP ∷ []) $
+            move ! (12 ∷ []) $ use1 W (‵ OwnP ⊛ ‵ OwnP) (shr-slice-copy 𝓤 H A W (named 3) κp Rp .twice points (slice points ∷ [])) $ split ! $ move ! (5 ∷ 0 ∷ []) $ lends W (‵ (flft κp qp) ∷ []) (OwnP ∷ []) $
             -- [its pre; the points; the six other tokens; what the eight others own; the locals at 16]
             calls-at ! fm (TakenC 𝓤 H A mem run) known-taken to-taken (and-then ! (load ! (from ! (stop !)) (look ! (at 16 6) refl)) (no-more !)) (λ v.
             returned ! tt taken.ended (taken.clauses 𝓤 H A mem run) to-taken v (‵ (flft κp qp) ∷ []) (id⊢ 𝓤 _) (λ ls ws.
@@ -281,8 +259,8 @@ module _ {M : Type 1} (𝓤 : URA M) (H : Heap 𝓤) (A : Atoms 𝓤) (W : Given
             assigns ! (addr ! (from ! (fld ! refl (hop ! (look-in ! (at 16 9) (sub ! 0 refl (whole !))) (stop !))))) (from ! (stop !)) (init ! (at 16 16) refl (tt, tt)) $
             assigns ! (agg ! (and-then ! (load ! (from ! (stop !)) (look ! (at 16 16) refl)) (and-then ! (load ! (from ! (fld ! refl (stop !))) (look-in ! (at 16 9) (sub ! 1 refl (whole !)))) (no-more !)))) (from ! (stop !)) (init ! (at 16 17) refl (tt, (tt, (record { fits = gz .0 }, tt)))) $
             -- so with held, the agents and the users, of which one copy goes to `state_taken`
-            move ! (12 ∷ []) $ use1 W (‵ OwnU ⊛ ‵ OwnU) (shr-slice-copy 𝓤 H A W (named 2) κu Ru .twice users (vu ∷ [])) $ split ! $ move ! (13 ∷ []) $ use1 W (‵ OwnA ⊛ ‵ OwnA) (shr-slice-copy 𝓤 H A W (named 1) κa Ra .twice agents (va ∷ [])) $ split ! $
-            move ! (13 ∷ []) $ use1 W (‵ OwnH ⊛ ‵ OwnH) (shr-slice-copy 𝓤 H A W (named 0) κh i64 .twice held (vh ∷ [])) $ split ! $
+            move ! (12 ∷ []) $ use1 W (‵ OwnU ⊛ ‵ OwnU) (shr-slice-copy 𝓤 H A W (named 2) κu Ru .twice users (slice users ∷ [])) $ split ! $ move ! (13 ∷ []) $ use1 W (‵ OwnA ⊛ ‵ OwnA) (shr-slice-copy 𝓤 H A W (named 1) κa Ra .twice agents (slice agents ∷ [])) $ split ! $
+            move ! (13 ∷ []) $ use1 W (‵ OwnH ⊛ ‵ OwnH) (shr-slice-copy 𝓤 H A W (named 0) κh i64 .twice held (slice held ∷ [])) $ split ! $
             owned ! Rls (Is Rls) (lines-makes 𝓤 H A W) ls _ iss $ owned ! usize (Is usize) (uint-makes 𝓤 H A W w64) n _ (refl, gp .0) $
             -- [the count 0; the lines 1; held 2, 3; the agents 4, 5; the users 6, 7; the points' token 8; the points 9; the tokens at 10; the ledger 16; the month line 17; the rows at 18; the locals at 21]
             move ! (10 ∷ 11 ∷ 12 ∷ 13 ∷ 14 ∷ 15 ∷ 16 ∷ 2 ∷ 17 ∷ 4 ∷ 6 ∷ 0 ∷ 1 ∷ 18 ∷ 19 ∷ 20 ∷ []) $ lends-so W RestToks (RestOwns ls v) _ (points .now, (refl, took)) $
@@ -299,9 +277,9 @@ module _ {M : Type 1} (𝓤 : URA M) (H : Heap 𝓤) (A : Atoms 𝓤) (W : Given
             returns ! (look ! (at 16 0) refl) $ free-all ! 16 refl $ keep ! (10 ∷ 2 ∷ 1 ∷ 0 ∷ 11 ∷ 12 ∷ 13 ∷ 14 ∷ 15 ∷ []) $
             by ! (exits r w (zz .1 .1 .1 .1 .1 .1 .1 .0) (zz .1 .1 .1 .1 .1 .1 .1 .1 .0) (zz .1 .1 .1 .1 .1 .1 .1 .1 .1 .0) isr (e (points .now) refl took) lx ly lz))))))))))))
 
-      walk : ent 𝓤 (onEntry 𝓤 H A state.signature (y .0 .0) (y .0 .1) (y .0 .3) vals) (WpFn 𝓤 H C Λ code.function (vg ∷ vh ∷ vl ∷ va ∷ vu ∷ vp ∷ vx ∷ vy ∷ vz ∷ []) Post)
+      walk : ent 𝓤 (onEntry 𝓤 H A state.signature (y .0 .0) (y .0 .1) (y .0 .3) vals) (WpFn 𝓤 H C Λ code.function (vg ∷ slice held ∷ vl ∷ slice agents ∷ slice users ∷ slice points ∷ slice xs ∷ slice ys ∷ slice zs ∷ []) Post)
       walk =
-          qed W (stars Toks ∷ ‵ (seps Owns) ∷ []) ∵ enter ! C Λ code.function (vg ∷ vh ∷ vl ∷ va ∷ vu ∷ vp ∷ vx ∷ vy ∷ vz ∷ []) _ $
+          qed W (stars Toks ∷ ‵ (seps Owns) ∷ []) ∵ enter ! C Λ code.function (vg ∷ slice held ∷ vl ∷ slice agents ∷ slice users ∷ slice points ∷ slice xs ∷ slice ys ∷ slice zs ∷ []) _ $
           alloc1 ! (λ l₀. alloc1 ! (λ l₁. alloc1 ! (λ l₂. alloc1 ! (λ l₃. alloc1 ! (λ l₄. alloc1 ! (λ l₅. alloc1 ! (λ l₆. alloc1 ! (λ l₇. alloc1 ! (λ l₈. alloc1 ! (λ l₉. alloc1 ! (λ l₁₀. alloc1 ! (λ l₁₁. alloc1 ! (λ l₁₂. alloc1 ! (λ l₁₃. alloc1 ! (λ l₁₄. alloc1 ! (λ l₁₅. alloc1 ! (λ l₁₆. alloc1 ! (λ l₁₇. alloc0 ! $ params1 ! $
           pass1 ! (init ! (at 0 1) refl (LL.lawful G.the-type G′.the-laws 𝓤 H A W .typed g _ isg .0)) $ pass1 ! (init ! (at 0 2) refl (tt, (tt, (record { fits = gh .0 }, tt)))) $ pass1 ! (init ! (at 0 3) refl (LL.lawful L.the-type L′.the-laws 𝓤 H A W .typed line _ isl .0)) $
           pass1 ! (init ! (at 0 4) refl (tt, (tt, (record { fits = ga .0 }, tt)))) $ pass1 ! (init ! (at 0 5) refl (tt, (tt, (record { fits = gu .0 }, tt)))) $ pass1 ! (init ! (at 0 6) refl (tt, (tt, (record { fits = gp .0 }, tt)))) $ pass1 ! (init ! (at 0 7) refl (tt, (tt, (record { fits = gx .0 }, tt)))) $ pass1 ! (init ! (at 0 8) refl (tt, (tt, (record { fits = gy .0 }, tt)))) $ pass1 ! (init ! (at 0 9) refl (tt, (tt, (record { fits = gz .0 }, tt)))) $ pass0 ! $

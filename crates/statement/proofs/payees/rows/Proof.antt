@@ -12,7 +12,8 @@ use mir.Facts.{toZ-ofZ}
 use Rattle.ints.specs.Fill.{Filling, filling-none, filling-long, filling-more, filling-all}
 use Rattle.rules.specs.Calendar.{cycleMonth}
 use Rattle.rules.specs.Lines.{agentOf}
-use Rattle.rules.proofs.Fits.{AmountsFit, possible}
+use Rattle.rules.specs.Ranges.{AmountsFit}
+use Rattle.rules.proofs.Fits.{possible}
 use Rattle.rules.proofs.Cycle.{cycle-within}
 use Rattle.rules.proofs.BoundsAgent.{correction}
 use Rattle.credits.specs.Columns.{line-at}
@@ -27,11 +28,10 @@ Inv-loop month agents vmant vc out₀ c n i₀ out i = Filling (agentRowsOf (toZ
 abbrev μ-loop : tie.MeasureT-loop
 μ-loop month agents vmant vc out₀ c n i₀ out i = n - i
 
-same : (s : tie.Start Inv-loop μ-loop) (month : ℤ) → length (agentRowsOf month (s .args .vmant .now) (s .args .vc .now) (map agentOf (s .args .agents .now))) ≡ length (s .args .out .now)
+same :
+    (s : tie.Start Inv-loop μ-loop) (month : ℤ)
+    → length (agentRowsOf month (s .args .vmant .now) (s .args .vc .now) (map agentOf (s .args .agents .now))) ≡ length (s .args .out .now)
 same s month = length-agentRows month (s .args .vmant .now) (s .args .vc .now) (s .args .agents .now) ∙ sym (s .pre .4)
-
-loop-holds : tie.Need-loop-holds Inv-loop μ-loop
-loop-holds c = filling-none _ _
 
 -- the line at i is in its ranges
 fits : (c : tie.In-loop Inv-loop μ-loop) → AmountsFit (agentOf (getD (c .before .before .before .args .agents .now) (c .before .loop .i) []))
@@ -51,7 +51,8 @@ vmpa-requires c κs =
     let l = c .before .before .before in
     let m = l .before .before in
     let f = fits l .pa in
-    rw (toZ-ofZ (cycle-fits m), cycle-is m, toZ-ofZ (correction f .fits)) (cycle-within (m .before .args .month) (possible (m .before .args .month) (m .before .pre .0)), f)
+    rw (toZ-ofZ (cycle-fits m), cycle-is m, toZ-ofZ (correction f .fits))
+    (cycle-within (m .before .args .month) (possible (m .before .args .month) (m .before .pre .0)), f)
 
 slice-set-from-row : tie.Need-slice-set-from-row Inv-loop μ-loop
 slice-set-from-row c =
@@ -75,7 +76,8 @@ loop-again c =
     let f₄ : SFits w64 (getD (s .args .vc .now) i (pos 0)) = search needs in
     let e = rw (toZ-ofZ (cycle-fits m), cycle-is m, toZ-ofZ (correction (fits l .pa) .fits)) at (v .vmpa .ensures (agentOf line)) in
     rw (toZ-ofZ (s .fits .month), toZ-ofZ f₀, toZ-ofZ f₁, toZ-ofZ f₂, toZ-ofZ f₃, toZ-ofZ f₄, w .vmst .ensures, e refl)
-    (filling-more (same s _) (rw (toZ-ofZ (s .fits .month)) at (l .before .loop .inv)) [] (omega (arith, l .loop-test .taken, s .pre .4)) (sym (agent-row-at (s .args .month) (s .args .vmant .now) (s .args .vc .now) (s .args .agents .now) i (l .loop-test .taken))))
+    (filling-more (same s _) (rw (toZ-ofZ (s .fits .month)) at (l .before .loop .inv)) [] (omega (arith, l .loop-test .taken, s .pre .4))
+    (sym (agent-row-at (s .args .month) (s .args .vmant .now) (s .args .vc .now) (s .args .agents .now) i (l .loop-test .taken))))
 
 same-length : tie.Need-same-length Inv-loop μ-loop
 same-length c = filling-long (same (c .before .before .before) _) (c .before .loop .inv)
@@ -92,7 +94,7 @@ rows-spec =
     Inv-loop
     μ-loop
     (λ c κs. search needs)
-    loop-holds
+    (λ c. filling-none _ _)
     (λ c. search needs)
     (λ c. search needs)
     vmst-requires

@@ -34,7 +34,7 @@ slice-aggregate-work-out-3 c = sym (length-take-le _ _ (few (c .before .before .
 work-out-requires : tie.Need-work-out-requires
 work-out-requires c κs =
     let s = c .before .before .before .before in (
-      rw (toZ-ofZ (s .fits .month), toZ-ofZ (s .fits .ons), toZ-ofZ (s .fits .debits)) (s .pre .0),
+      rw (toZ-ofZ (s .fits .debits)) (s .pre .0),
       length-take-le _ _ (few s),
       length-take-le _ _ (few s),
       length-take-le _ _ (few s),
@@ -46,7 +46,7 @@ returns c =
     let d = c .before .before .before .before in
     let s = d .before .before .before .before .before in
     let f : SFits w64 (d .work-out .result) = search needs in
-    rw (toZ-ofZ f) (rw (toZ-ofZ (s .fits .month), toZ-ofZ (s .fits .ons), toZ-ofZ (s .fits .debits)) at (d .work-out .ensures))
+    rw (toZ-ofZ f) (rw (toZ-ofZ (s .fits .debits)) at (d .work-out .ensures))
 
 pub state-payees-spec : {M : Type 1} → statement M
 state-payees-spec =

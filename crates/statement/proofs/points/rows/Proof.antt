@@ -8,7 +8,7 @@ use lib.IntN.{ℤ}
 use lib.ListN.{length, getD, length-map}
 use Rattle.ints.specs.Fill.{Filling, filling-none, filling-long, filling-more, filling-all}
 use Rattle.rules.specs.Lists.{getD-map}
-use Rattle.rules.specs.Lines.{User, userOf, pointOf}
+use Rattle.rules.specs.Lines.{userOf, pointOf}
 use Rattle.statement.specs.Statement.{pointRow}
 use Rattle.statement.proofs.points.rows.Statement.{statement}
 use Rattle.statement.proofs.points.rows.Tie as tie
@@ -26,7 +26,10 @@ abbrev μ-loop : tie.MeasureT-loop
 count : (users points : List (List ℤ)) → length (all users points) ≡ length points
 count users points = length-map (map pointOf points) (pointRow (map userOf users)) ∙ length-map points pointOf
 
-row-at : (users points : List (List ℤ)) (i : ℕ) → i < length points → getD (all users points) i [] ≡ pointRow (map userOf users) (pointOf (getD points i []))
+row-at :
+    (users points : List (List ℤ)) (i : ℕ)
+    → i < length points
+    → getD (all users points) i [] ≡ pointRow (map userOf users) (pointOf (getD points i []))
 row-at users points i h =
     getD-map (pointRow (map userOf users)) (map pointOf points) i (pointOf []) [] (rw length-map h)
     ∙ ap (pointRow (map userOf users)) (getD-map pointOf points i [] (pointOf []) h)
@@ -52,7 +55,8 @@ loop-again c =
     let us = s .args .users .now in
     let ps = s .args .points .now in
     let h : b .loop .i < length ps = omega arith in
-    filling-more (same s) (b .loop .inv) [] (omega (arith, s .pre .1)) (c .row .ensures ∙ ap (pointRow (map userOf us)) (c .before .point-of .ensures) ∙ sym (row-at us ps (b .loop .i) h))
+    filling-more (same s) (b .loop .inv) [] (omega (arith, s .pre .1))
+    (c .row .ensures ∙ ap (pointRow (map userOf us)) (c .before .point-of .ensures) ∙ sym (row-at us ps (b .loop .i) h))
 
 same-length : tie.Need-same-length Inv-loop μ-loop
 same-length c = filling-long (same (c .before .before)) (c .before .loop .inv)

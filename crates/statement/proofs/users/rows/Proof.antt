@@ -1,5 +1,5 @@
 -- After i turns the first i entries are the rows of the first i users.
-use Prim.Native.Nat.{ℕ, _-_}
+use Prim.Native.Nat.{ℕ, _-_, _<_}
 use native.Mathlib.Omega.{arith}
 use mathlib.Core.Path.{_≡_, sym, _∙_}
 use mathlib.Core.List.{[]}
@@ -10,6 +10,7 @@ use mir.Val.{SFits}
 use mir.Facts.{toZ-ofZ}
 use Rattle.ints.specs.Bounds.{Word}
 use Rattle.ints.specs.Fill.{Filling, filling-none, filling-long, filling-more, filling-all}
+use Rattle.rules.specs.Most.{mostAmount, mostCharged, mostHeld, mostParcels}
 use Rattle.statement.specs.Statement.{at}
 use Rattle.statement.specs.Columns.{userRowsBy}
 use Rattle.statement.proofs.Entries.{length-userRows, user-row-at}
@@ -23,37 +24,12 @@ Inv-loop users uses overruns vme cpv held debits credits out₀ n i₀ out i =
 abbrev μ-loop : tie.MeasureT-loop
 μ-loop users uses overruns vme cpv held debits credits out₀ n i₀ out i = n - i
 
-same : (s : tie.Start Inv-loop μ-loop) → let a = s .args in length (userRowsBy (a .users .now) (a .uses .now) (a .overruns .now) (a .vme .now) (a .cpv .now) (a .held .now) (a .debits .now) (a .credits .now)) ≡ length (a .out .now)
-same s =
-    let a = s .args in
-    length-userRows (a .users .now) (a .uses .now) (a .overruns .now) (a .vme .now) (a .cpv .now) (a .held .now) (a .debits .now) (a .credits .now) ∙ sym (s .pre .out-count)
-
-loop-holds : tie.Need-loop-holds Inv-loop μ-loop
-loop-holds c = filling-none _ _
-
-mul-line : tie.Need-mul-line Inv-loop μ-loop
-mul-line c = omega arith
-
-shared-slice-copy-out-line : tie.Need-shared-slice-copy-out-line Inv-loop μ-loop
-shared-slice-copy-out-line c = omega arith
-
-mul-net : tie.Need-mul-net Inv-loop μ-loop
-mul-net c = omega arith
-
-shared-slice-copy-out-net : tie.Need-shared-slice-copy-out-net Inv-loop μ-loop
-shared-slice-copy-out-net c = omega arith
-
-mul-net-2 : tie.Need-mul-net-2 Inv-loop μ-loop
-mul-net-2 c = omega arith
-
-shared-slice-copy-out-net-2 : tie.Need-shared-slice-copy-out-net-2 Inv-loop μ-loop
-shared-slice-copy-out-net-2 c = omega arith
-
-mul-net-3 : tie.Need-mul-net-3 Inv-loop μ-loop
-mul-net-3 c = omega arith
-
-shared-slice-copy-out-net-3 : tie.Need-shared-slice-copy-out-net-3 Inv-loop μ-loop
-shared-slice-copy-out-net-3 c = omega arith
+same :
+    (s : tie.Start Inv-loop μ-loop)
+    → let a = s .args in
+    length (userRowsBy (a .users .now) (a .uses .now) (a .overruns .now) (a .vme .now) (a .cpv .now) (a .held .now) (a .debits .now) (a .credits .now))
+    ≡ length (a .out .now)
+same s = length-userRows (s .args .users .now) _ _ _ _ _ _ _ ∙ sym (s .pre .out-count)
 
 -- what `net` asks, and what it comes to
 module _ (c : tie.After-net-arg3 Inv-loop μ-loop) where
@@ -66,90 +42,23 @@ module _ (c : tie.After-net-arg3 Inv-loop μ-loop) where
   abbrev i : ℕ
   i = turn .before .loop .i
 
-  words : Word 100000000000 1638500000000000 (at (start .args .vme .now) i) × Word 0 25600000000000 (at (start .args .cpv .now) i) × Word 0 100000000000000000 (at (start .args .held .now) i)
+  words :
+      Word mostAmount mostCharged (at (start .args .vme .now) i)
+      × Word 0 mostParcels (at (start .args .cpv .now) i)
+      × Word 0 mostHeld (at (start .args .held .now) i)
   words =
-      let r = start .pre in
-      let h = turn .loop-test .taken in
-      (r .charge .at i (omega (arith, r .vme-count)), r .compensation .at i (omega (arith, r .cpv-count)), r .credit .at i (omega (arith, r .held-count)))
+      let r = start .pre .amounts in
+      let h : i < length (start .args .vme .now) = omega (arith, turn .loop-test .taken, start .pre .vme-count) in
+      (r .charge .at i h, r .compensation .at i (omega (arith, r .cpv-count)), r .credit .at i (omega (arith, r .held-count)))
 
 net-requires : tie.Need-net-requires Inv-loop μ-loop
 net-requires c κs = let w = words c in rw (toZ-ofZ (w .0 .fits), toZ-ofZ (w .1 .fits), toZ-ofZ (w .2 .fits)) w
-
-mul-t16 : tie.Need-mul-t16 Inv-loop μ-loop
-mul-t16 c = omega arith
-
-shared-slice-copy-out-t26 : tie.Need-shared-slice-copy-out-t26 Inv-loop μ-loop
-shared-slice-copy-out-t26 c = omega arith
-
-mul-t24 : tie.Need-mul-t24 Inv-loop μ-loop
-mul-t24 c = omega arith
-
-shared-slice-copy-out-t23 : tie.Need-shared-slice-copy-out-t23 Inv-loop μ-loop
-shared-slice-copy-out-t23 c = omega arith
-
-mul-t21 : tie.Need-mul-t21 Inv-loop μ-loop
-mul-t21 c = omega arith
-
-shared-slice-copy-out-t32 : tie.Need-shared-slice-copy-out-t32 Inv-loop μ-loop
-shared-slice-copy-out-t32 c = omega arith
-
-mul-t33 : tie.Need-mul-t33 Inv-loop μ-loop
-mul-t33 c = omega arith
-
-shared-slice-copy-out-t35 : tie.Need-shared-slice-copy-out-t35 Inv-loop μ-loop
-shared-slice-copy-out-t35 c = omega arith
-
-mul-t36 : tie.Need-mul-t36 Inv-loop μ-loop
-mul-t36 c = omega arith
-
-shared-slice-copy-out-t38 : tie.Need-shared-slice-copy-out-t38 Inv-loop μ-loop
-shared-slice-copy-out-t38 c = omega arith
-
-mul-t39 : tie.Need-mul-t39 Inv-loop μ-loop
-mul-t39 c = omega arith
-
-shared-slice-copy-out-t41 : tie.Need-shared-slice-copy-out-t41 Inv-loop μ-loop
-shared-slice-copy-out-t41 c = omega arith
-
-mul-t42 : tie.Need-mul-t42 Inv-loop μ-loop
-mul-t42 c = omega arith
-
-shared-slice-copy-out-t44 : tie.Need-shared-slice-copy-out-t44 Inv-loop μ-loop
-shared-slice-copy-out-t44 c = omega arith
-
-mul-row : tie.Need-mul-row Inv-loop μ-loop
-mul-row c = omega arith
-
--- what is read fits
-uses-fit : (c : tie.After-t26 Inv-loop μ-loop) → let d = c .before .before in SFits w64 (at (start d .args .uses .now) (i d))
-uses-fit c = sfits-of (c .t26 .given)
-
-overruns-fit : (c : tie.After-t23 Inv-loop μ-loop) → let d = c .before .before .before in SFits w64 (at (start d .args .overruns .now) (i d))
-overruns-fit c = sfits-of (c .t23 .given)
-
-ret-fit : (c : tie.After-t20 Inv-loop μ-loop) → let d = c .before .before .before .before in SFits w64 (at (getD (start d .args .users .now) (i d) []) 2)
-ret-fit c = sfits-of (c .t20 .given)
-
-debits-fit : (c : tie.After-t41 Inv-loop μ-loop) → let d = c .before .before .before .before .before .before .before .before in SFits w64 (at (start d .args .debits .now) (i d))
-debits-fit c = sfits-of (c .t41 .given)
-
-credits-fit : (c : tie.After-t44 Inv-loop μ-loop) → let d = c .before .before .before .before .before .before .before .before .before in SFits w64 (at (start d .args .credits .now) (i d))
-credits-fit c = sfits-of (c .t44 .given)
-
-net-fits : (c : tie.After-net Inv-loop μ-loop) → SFits w64 (c .net .result)
-net-fits c = search needs
 
 slice-set-from-row : tie.Need-slice-set-from-row Inv-loop μ-loop
 slice-set-from-row c =
     let d = c .before .before .before .before .before .before .before .before .before in
     let s = start d in
     omega (arith, filling-long (same s) (turn d .before .loop .inv), turn d .loop-test .taken, s .pre .out-count)
-
-add-i : tie.Need-add-i Inv-loop μ-loop
-add-i c = omega arith
-
-loop-less : tie.Need-loop-less Inv-loop μ-loop
-loop-less c = omega arith
 
 loop-again : tie.Need-loop-again Inv-loop μ-loop
 loop-again c =
@@ -160,17 +69,23 @@ loop-again c =
     let a = s .args in
     let h = turn d .loop-test .taken in
     let w = words d in
+    let f₀ : SFits w64 (at (a .uses .now) (i d)) = sfits-of (t .before .before .t26 .given) in
+    let f₁ : SFits w64 (at (a .overruns .now) (i d)) = sfits-of (t .before .t23 .given) in
+    let f₂ : SFits w64 (at (getD (a .users .now) (i d) []) 2) = sfits-of (t .t20 .given) in
+    let f₃ : SFits w64 (e .net .result) = search needs in
+    let f₄ : SFits w64 (at (a .debits .now) (i d)) = sfits-of (c .before .t41 .given) in
+    let f₅ : SFits w64 (at (a .credits .now) (i d)) = sfits-of (c .t44 .given) in
     let n = rw (toZ-ofZ (w .0 .fits), toZ-ofZ (w .1 .fits), toZ-ofZ (w .2 .fits)) at (e .net .ensures) in
     rw (
-      toZ-ofZ (uses-fit (t .before .before)),
-      toZ-ofZ (overruns-fit (t .before)),
-      toZ-ofZ (ret-fit t),
+      toZ-ofZ f₀,
+      toZ-ofZ f₁,
+      toZ-ofZ f₂,
       toZ-ofZ (w .0 .fits),
       toZ-ofZ (w .1 .fits),
       toZ-ofZ (w .2 .fits),
-      toZ-ofZ (net-fits e),
-      toZ-ofZ (debits-fit (c .before)),
-      toZ-ofZ (credits-fit c),
+      toZ-ofZ f₃,
+      toZ-ofZ f₄,
+      toZ-ofZ f₅,
       n,
     )
     (filling-more (same s) (turn d .before .loop .inv) [] (omega (arith, h, s .pre .out-count)) (sym (user-row-at (s .pre) (i d) h)))
@@ -187,35 +102,35 @@ rows-spec =
     (tie.spec
     Inv-loop
     μ-loop
-    loop-holds
-    mul-line
-    shared-slice-copy-out-line
-    mul-net
-    shared-slice-copy-out-net
-    mul-net-2
-    shared-slice-copy-out-net-2
-    mul-net-3
-    shared-slice-copy-out-net-3
+    (λ c. filling-none _ _)
+    (λ c. omega arith)
+    (λ c. omega arith)
+    (λ c. omega arith)
+    (λ c. omega arith)
+    (λ c. omega arith)
+    (λ c. omega arith)
+    (λ c. omega arith)
+    (λ c. omega arith)
     net-requires
-    mul-t16
-    shared-slice-copy-out-t26
-    mul-t24
-    shared-slice-copy-out-t23
+    (λ c. omega arith)
+    (λ c. omega arith)
+    (λ c. omega arith)
+    (λ c. omega arith)
     (λ c. search needs)
-    mul-t21
-    shared-slice-copy-out-t32
-    mul-t33
-    shared-slice-copy-out-t35
-    mul-t36
-    shared-slice-copy-out-t38
-    mul-t39
-    shared-slice-copy-out-t41
-    mul-t42
-    shared-slice-copy-out-t44
-    mul-row
+    (λ c. omega arith)
+    (λ c. omega arith)
+    (λ c. omega arith)
+    (λ c. omega arith)
+    (λ c. omega arith)
+    (λ c. omega arith)
+    (λ c. omega arith)
+    (λ c. omega arith)
+    (λ c. omega arith)
+    (λ c. omega arith)
+    (λ c. omega arith)
     slice-set-from-row
-    add-i
-    loop-less
+    (λ c. omega arith)
+    (λ c. omega arith)
     loop-again
     same-length
     returns)
