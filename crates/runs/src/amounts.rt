@@ -7,8 +7,12 @@ use crate::rows::Payee;
 use crate::rows::row;
 use rules::PointLine;
 use rules::columns;
+use statement::PayeeRow;
+use statement::PointRow;
+use statement::UserRow;
+use statement::columns as stated;
 
-fn points(month: i64, points: &[PointLine], rows: &[[i64; 2]], told: &[u8]) -> bool
+fn points(month: i64, points: &[PointLine], rows: &[PointRow], told: &[u8]) -> bool
     requires { ⌜ length (now rows) ≤ length (now points) ⌝ }
 {
     let n = rows.len();
@@ -18,10 +22,26 @@ fn points(month: i64, points: &[PointLine], rows: &[[i64; 2]], told: &[u8]) -> b
         let line = points[i];
         let user = lines::size(line[columns::POINT_USER]);
         let point = i as u64 + 1;
-        if !row(month, b"use", Payee::Nobody, user, point, r[0], told) {
+        if !row(
+            month,
+            b"use",
+            Payee::Nobody,
+            user,
+            point,
+            r[stated::USE_CHARGE],
+            told,
+        ) {
             return false;
         }
-        if !row(month, b"overrun", Payee::Nobody, user, point, r[1], told) {
+        if !row(
+            month,
+            b"overrun",
+            Payee::Nobody,
+            user,
+            point,
+            r[stated::OVERRUN],
+            told,
+        ) {
             return false;
         }
         i += 1;
@@ -30,36 +50,68 @@ fn points(month: i64, points: &[PointLine], rows: &[[i64; 2]], told: &[u8]) -> b
 }
 
 // What a user is charged, and how that is settled against its held credit.
-fn charged(month: i64, j: u64, r: [i64; 9], told: &[u8]) -> bool {
-    if !row(month, b"EUST", Payee::Nobody, j, 0, r[0], told) {
+fn charged(month: i64, j: u64, r: UserRow, told: &[u8]) -> bool {
+    if !row(month, b"EUST", Payee::Nobody, j, 0, r[stated::EUST], told) {
         return false;
     }
-    if !row(month, b"overruns", Payee::Nobody, j, 0, r[1], told) {
+    if !row(
+        month,
+        b"overruns",
+        Payee::Nobody,
+        j,
+        0,
+        r[stated::OVERRUNS],
+        told,
+    ) {
         return false;
     }
-    if !row(month, b"ret", Payee::Nobody, j, 0, r[2], told) {
+    if !row(
+        month,
+        b"ret",
+        Payee::Nobody,
+        j,
+        0,
+        r[stated::USER_RET],
+        told,
+    ) {
         return false;
     }
-    if !row(month, b"VME", Payee::Nobody, j, 0, r[3], told) {
+    if !row(month, b"VME", Payee::Nobody, j, 0, r[stated::VME], told) {
         return false;
     }
-    row(month, b"CPV", Payee::Nobody, j, 0, r[4], told)
+    row(month, b"CPV", Payee::Nobody, j, 0, r[stated::CPV], told)
 }
 
-fn owed(month: i64, j: u64, r: [i64; 9], told: &[u8]) -> bool {
-    if !row(month, b"held_before", Payee::Nobody, j, 0, r[5], told) {
+fn owed(month: i64, j: u64, r: UserRow, told: &[u8]) -> bool {
+    if !row(
+        month,
+        b"held_before",
+        Payee::Nobody,
+        j,
+        0,
+        r[stated::HELD_BEFORE],
+        told,
+    ) {
         return false;
     }
-    if !row(month, b"n", Payee::Nobody, j, 0, r[6], told) {
+    if !row(month, b"n", Payee::Nobody, j, 0, r[stated::N], told) {
         return false;
     }
-    if !row(month, b"VD", Payee::Nobody, j, 0, r[7], told) {
+    if !row(month, b"VD", Payee::Nobody, j, 0, r[stated::VD], told) {
         return false;
     }
-    row(month, b"held_after", Payee::Nobody, j, 0, r[8], told)
+    row(
+        month,
+        b"held_after",
+        Payee::Nobody,
+        j,
+        0,
+        r[stated::HELD_AFTER],
+        told,
+    )
 }
 
-fn users(month: i64, rows: &[[i64; 9]], told: &[u8]) -> bool {
+fn users(month: i64, rows: &[UserRow], told: &[u8]) -> bool {
     let n = rows.len();
     let mut i = 0;
     while i < n {
@@ -76,23 +128,39 @@ fn users(month: i64, rows: &[[i64; 9]], told: &[u8]) -> bool {
     true
 }
 
-fn agent(month: i64, i: u64, r: [i64; 5], told: &[u8]) -> bool {
-    if !row(month, b"VMST", Payee::Agent(i), 0, 0, r[0], told) {
+fn agent(month: i64, i: u64, r: PayeeRow, told: &[u8]) -> bool {
+    if !row(month, b"VMST", Payee::Agent(i), 0, 0, r[stated::VMST], told) {
         return false;
     }
-    if !row(month, b"VMPA", Payee::Agent(i), 0, 0, r[1], told) {
+    if !row(month, b"VMPA", Payee::Agent(i), 0, 0, r[stated::VMPA], told) {
         return false;
     }
-    if !row(month, b"VMANT", Payee::Agent(i), 0, 0, r[2], told) {
+    if !row(
+        month,
+        b"VMANT",
+        Payee::Agent(i),
+        0,
+        0,
+        r[stated::VMANT],
+        told,
+    ) {
         return false;
     }
-    if !row(month, b"ret", Payee::Agent(i), 0, 0, r[3], told) {
+    if !row(
+        month,
+        b"ret",
+        Payee::Agent(i),
+        0,
+        0,
+        r[stated::PAYEE_RET],
+        told,
+    ) {
         return false;
     }
-    row(month, b"VC", Payee::Agent(i), 0, 0, r[4], told)
+    row(month, b"VC", Payee::Agent(i), 0, 0, r[stated::VC], told)
 }
 
-fn agents(month: i64, rows: &[[i64; 5]], told: &[u8]) -> bool {
+fn agents(month: i64, rows: &[PayeeRow], told: &[u8]) -> bool {
     let n = rows.len();
     let mut i = 0;
     while i < n {
@@ -139,9 +207,9 @@ fn cells(month: i64, agents: usize, users: usize, table: &[i64], told: &[u8]) ->
 pub fn month(
     month: i64,
     lines: &[PointLine],
-    point_rows: &[[i64; 2]],
-    user_rows: &[[i64; 9]],
-    agent_rows: &[[i64; 5]],
+    point_rows: &[PointRow],
+    user_rows: &[UserRow],
+    agent_rows: &[PayeeRow],
     ons: i64,
     balance: i64,
     table: &[i64],

@@ -11,6 +11,10 @@ use rules::Ledger;
 use rules::MonthLine;
 use rules::PointLine;
 use rules::UserLine;
+use statement::PayeeRow;
+use statement::PointRow;
+use statement::UserRow;
+use statement::columns as stated;
 
 // What came of a month: whether all was written, and the ledger that holds from then on.
 pub struct Closing {
@@ -52,9 +56,9 @@ fn print_amounts(
     answer: Answer,
     month: i64,
     points: &[PointLine],
-    point_rows: &[[i64; 2]],
-    user_rows: &[[i64; 9]],
-    payee_rows: &[[i64; 5]],
+    point_rows: &[PointRow],
+    user_rows: &[UserRow],
+    payee_rows: &[PayeeRow],
     agents: usize,
     balance: i64,
     cells: &[i64],
@@ -72,7 +76,7 @@ fn print_amounts(
                 point_rows,
                 user_rows,
                 &payee_rows[..agents],
-                ons[4],
+                ons[stated::VC],
                 balance,
                 cells,
                 told,
@@ -90,9 +94,9 @@ fn state_and_close(
     agents: &[AgentLine],
     users: &[UserLine],
     points: &[PointLine],
-    point_rows: &mut [[i64; 2]],
-    user_rows: &mut [[i64; 9]],
-    payee_rows: &mut [[i64; 5]],
+    point_rows: &mut [PointRow],
+    user_rows: &mut [UserRow],
+    payee_rows: &mut [PayeeRow],
     cells: &mut [i64],
     work: &mut [u64],
     told: &[u8],
