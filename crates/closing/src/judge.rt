@@ -45,11 +45,11 @@ fn state_verdict(ledger: Ledger, held: &[i64], line: MonthLine) -> Answer
     requires { ⌜ ledger .users ≤ length (now held) ⌝ }
     ensures { λ r. ⌜ verdictOf r ≡ stateTests (stateOf ledger (now (held .entry))) line ⌝ }
 {
-    if limits::months::bad_month(ledger.month, line.month) {
+    if refusals::months::bad_month(ledger.month, line.month) {
         return Answer::Refused(3, 0);
     }
     let n = ledger.users as usize;
-    limits::lines::credits_verdict(&held[..n])
+    refusals::lines::credits_verdict(&held[..n])
 }
 
 // 5 to 7, of points whose first refusal their scan has found.
@@ -62,7 +62,7 @@ fn lines_verdict(
     ensures { λ r. ⌜ ((points : List Point) → verdictOf scanned ≡ eachLine (pointTest (map userOf (now (users .entry)))) 1 points
         → verdictOf r ≡ lineTests (monthLines line (now (agents .entry)) (now (users .entry)) points)) ⌝ }
 {
-    let first = limits::lines::lines_before_points(line, agents, users);
+    let first = refusals::lines::lines_before_points(line, agents, users);
     match first {
         Answer::Refused(number, place) => Answer::Refused(number, place),
         Answer::Accepted => scanned,

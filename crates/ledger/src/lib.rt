@@ -50,7 +50,7 @@ fn unopened(number: u64, place: u64) -> Outcome
 pub fn open(users: u64, agents: u64, held: &mut [i64]) -> Outcome
     ensures { λ r. ⌜ Opens users agents (now (held .entry)) r (now (held .exit)) ⌝ }
 {
-    if limits::counts::bad_opening_counts(users, agents) {
+    if refusals::counts::bad_opening_counts(users, agents) {
         return unopened(1, 0);
     }
     let n = users as usize;
@@ -84,7 +84,7 @@ fn finish(
     ensures { λ r. ⌜ Finishes ledger (now (held .entry)) line (now (agents .entry)) (now (users .entry)) n s (now (cells .entry)) (now (work .entry))
         r (now (held .exit)) (now (cells .exit)) (now (work .exit)) ⌝ }
 {
-    let first = limits::counts::closing_verdict(
+    let first = refusals::counts::closing_verdict(
         ledger,
         users.len() as u64,
         agents.len() as u64,

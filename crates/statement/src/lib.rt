@@ -86,7 +86,7 @@ fn stating_verdict(
         (shortRooms (stateOf ledger credits) (record { held = held; points = «point_rows»; users = «user_rows»; payees = «payee_rows» }) points)
         users agents points) ⌝ }
 {
-    if limits::counts::bad_counts(ledger, users, agents, points) {
+    if refusals::counts::bad_counts(ledger, users, agents, points) {
         return Answer::Refused(1, 0);
     }
     short_rooms(

@@ -16,7 +16,7 @@ fn row(users: &[UserLine], p: Point) -> PointRow
     requires { ⌜ badPoint p ≡ false ⌝ }
     ensures { λ r. ⌜ r ≡ pointRow (map userOf (now (users .entry))) p ⌝ }
 {
-    let kind = limits::points::kind_of(users, p.user);
+    let kind = refusals::points::kind_of(users, p.user);
     [
         charges::point::use_charge(p),
         charges::point::overrun(kind, p),

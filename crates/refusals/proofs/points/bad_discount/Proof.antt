@@ -1,0 +1,11 @@
+-- One range.
+use borrow.Author.Needs.{needs}
+use mir.Facts.{toZ-ofZ}
+use Rattle.refusals.proofs.points.bad_discount.Statement.{statement}
+use Rattle.refusals.proofs.points.bad_discount.Tie as tie
+
+returns : tie.Need-returns
+returns c = simp (toZ-ofZ, c .before .fits .x) at (c .outside .ensures)
+
+pub bad-discount-spec : {M : Type 1} → statement M
+bad-discount-spec = tie.close (tie.spec (λ c κs. search needs) returns)
