@@ -11,9 +11,9 @@ use Rattle.rules.specs.declared.Answer.the-variants.{Accepted, Refused}
 use Rattle.rules.specs.declared.Ledger.{Ledger}
 use Rattle.rules.specs.declared.MonthLine.{MonthLine}
 use Rattle.rules.specs.declared.Point.{Point}
-use Rattle.rules.specs.Verdict.{Verdict, accepted}
+use Rattle.rules.specs.Verdict.{Verdict, accepted, refused}
 use Rattle.rules.specs.Lines.{Lines, agentOf, userOf, monthLines}
-use Rattle.rules.specs.Refusals.{shortSlices, countTests}
+use Rattle.rules.specs.Refusals.{cellsNeeded, shortSlices, countTests}
 use Rattle.rules.specs.Calls.{verdictOf, stateOf, lengthsOf, closingRefusal, Closes}
 use Rattle.rules.proofs.Passed.{slices}
 use Rattle.rules.proofs.Promise.{closes-refused, closes-accepted}
@@ -48,13 +48,23 @@ module _ {g : Ledger} {held cells : List ℤ} {work : List ℕ} {line : MonthLin
   abbrev l : Lines
   l = monthLines line agents users points
 
+  -- what refuses it
+  pub refused-so : {n p : ℕ} → r .verdict ≡ Refused n p → closingRefusal g held cells work l ≡ refused n p
+  refused-so e = sym (f .judged .verdict) ∙ ap verdictOf e
+
   pub refused-closes : {n p : ℕ} → r .verdict ≡ Refused n p → Closes g held l cells work (record { answer = Refused n p; ledger = g }) held cells work
-  refused-closes {n} {p} e = closes-refused g held l cells work n p (sym (f .judged .verdict) ∙ ap verdictOf e)
+  refused-closes {n} {p} e = closes-refused g held l cells work n p (refused-so e)
 
   module _ (e : r .verdict ≡ Accepted) where
     -- nothing refuses it
-    passed : closingRefusal g held cells work l ≡ accepted
+    pub passed : closingRefusal g held cells work l ≡ accepted
     passed = sym (f .judged .verdict) ∙ ap verdictOf e
+
+    pub users-so : length users ≡ g .users
+    users-so = user-count g held cells work line agents users points passed
+
+    pub cells-so : (length agents + 1) * length users ≡ cellsNeeded (g .users) (g .agents)
+    cells-so = cell-count g held cells work line agents users points passed
 
     pub held-enough : length users ≤ length held
     held-enough = held-reach g held cells work line agents users points passed
@@ -77,7 +87,5 @@ module _ {g : Ledger} {held cells : List ℤ} {work : List ℕ} {line : MonthLin
         (cells′ ++ drop ((length agents + 1) * length users) cells)
         work′
     accepted-closes {held′} {cells′} {work′} w long =
-        let u = user-count g held cells work line agents users points passed in
-        let m = cell-count g held cells work line agents users points passed in
-        let n = long ∙ length-take-le _ cells cells-enough ∙ m in
-        rw (w .credits, m, u) (closes-accepted g held l cells work cells′ work′ passed (w .table) n (w .scratch))
+        let n = long ∙ length-take-le _ cells cells-enough ∙ cells-so in
+        rw (w .credits, cells-so, users-so) (closes-accepted g held l cells work cells′ work′ passed (w .table) n (w .scratch))

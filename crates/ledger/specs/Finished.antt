@@ -1,4 +1,4 @@
--- Closing's promise once the points are scanned: it holds of any points, so many of them, of which s is what a scan finds.
+-- Closing's promise once the points are scanned.
 use Prim.Native.Nat.{ℕ}
 use mathlib.Core.List.{List}
 use lib.IntN.{ℤ}
@@ -11,6 +11,8 @@ use Rattle.rules.specs.Calls.{Closes}
 use Rattle.charges.specs.declared.scan.Sums.{Sums}
 use Rattle.charges.specs.Scan.{ScanFinds}
 
+-- it holds of any points, so many of them,
+-- of which s is what a scan finds
 abbrev pub Finishes : Ledger → List ℤ → MonthLine → List (List ℤ) → List (List ℤ) → ℕ → Sums → List ℤ → List ℕ → Outcome → List ℤ → List ℤ → List ℕ → Type 0
 Finishes g held line agents users count s cells work r held′ cells′ work′ =
     (points : List Point)
