@@ -29,7 +29,10 @@ use Rattle.cases.specs.ByHand.{A, B, C, D, E, F, G, H, I, J, All, byHand
 use Rattle.cases.proofs.Tables.{table-of}
 
 a : A
-unfolding reading scanAt scan readBlocks readLines readLine readValue readDigits format more line inValue enter step refusal badCounts shortSlices badMonth countTests stateTests linesBeforePoints lineTests sumTests eachLine outside impossibleMonth monthOfYear kindOf badAgent badUser badPoint unfitPoint floor sumℤ Σ< eachFrom sideBySide halfUp orZero useCharge allowance excess overrun ofUser EUSTs overrunSums VMEs pvTotal CPVs ns VDs newCredits runningShare partsFrom part cycleMonth VMPA VMST ownCredit ownCredits SMSEFrom VMANTsFrom agentVCsFrom VCsFrom
+unfolding reading scanAt scan readBlocks readLines readLine readValue readDigits format more line inValue enter step refusal badCounts shortSlices badMonth
+    countTests stateTests linesBeforePoints lineTests sumTests eachLine outside impossibleMonth monthOfYear kindOf badAgent badUser badPoint unfitPoint floor
+    sumℤ Σ< eachFrom sideBySide halfUp orZero useCharge allowance excess overrun ofUser EUSTs overrunSums VMEs pvTotal CPVs ns VDs newCredits runningShare
+    partsFrom part cycleMonth VMPA VMST ownCredit ownCredits SMSEFrom VMANTsFrom agentVCsFrom VCsFrom
 a =
     record {
       read-whole = refl;
@@ -80,7 +83,8 @@ d : D
 unfolding floor sumℤ Σ<
 d =
     record {
-      one-of-three = λ cells t. three _ _ _ (t .cell 0 0 (lit< tt) (lit< tt)) (t .cell 1 0 (lit< tt) (lit< tt)) (t .cell 2 0 (lit< tt) (lit< tt)) (t .column 0 (lit< tt));
+      one-of-three = λ cells t. three _ _ _ (t .cell 0 0 (lit< tt) (lit< tt)) (t .cell 1 0 (lit< tt) (lit< tt)) (t .cell 2 0 (lit< tt) (lit< tt))
+          (t .column 0 (lit< tt));
       tables = (table-of _ _ _ refl, (table-of _ _ _ refl, (table-of _ _ _ refl, tt)));
       columns = refl;
     }
@@ -106,7 +110,9 @@ unfolding VMPA cycleMonth monthOfYear floor
 i = refl
 
 j : J
-unfolding after verdicts refusal badCounts shortSlices badMonth countTests stateTests linesBeforePoints lineTests sumTests eachLine outside impossibleMonth monthOfYear kindOf badAgent badUser badPoint unfitPoint floor sumℤ eachFrom sideBySide halfUp orZero useCharge allowance excess overrun ofUser EUSTs overrunSums VMEs pvTotal CPVs ns VDs newCredits
+unfolding after verdicts refusal badCounts shortSlices badMonth countTests stateTests linesBeforePoints lineTests sumTests eachLine outside impossibleMonth
+    monthOfYear kindOf badAgent badUser badPoint unfitPoint floor sumℤ eachFrom sideBySide halfUp orZero useCharge allowance excess overrun ofUser EUSTs
+    overrunSums VMEs pvTotal CPVs ns VDs newCredits
 j = record { closed = refl; n = refl; debit = refl; held = refl; charges = refl; debit-then = refl; held-then = refl }
 
 pub checked-by-hand : All byHand

@@ -90,7 +90,10 @@ module _ (vc vd cells : List ℤ) where
       let t = and-right (fit && all-fine) totals e in
       record {
         size = eqb-true (length cells) (length vc * length vd) (and-left fit all-fine s);
-        cell = λ i j h k. cell-of (getD vc i (pos 0) *ℤ getD vd j (pos 0)) (sumℤ vd) (cellAt (length vd) cells i j) (below-at (length vd) (fine i) (below-at (length vc) (λ m. below (length vd) (fine m)) (and-right fit all-fine s) i h) j k);
-        row = λ i h. eqZ-true (Σ< (length vd) (λ j. cellAt (length vd) cells i j)) (getD vc i (pos 0)) (below-at (length vc) row-right (and-left (below (length vc) row-right) (below (length vd) column-right) t) i h);
-        column = λ j h. eqZ-true (Σ< (length vc) (λ i. cellAt (length vd) cells i j)) (getD vd j (pos 0)) (below-at (length vd) column-right (and-right (below (length vc) row-right) (below (length vd) column-right) t) j h);
+        cell = λ i j h k. cell-of (getD vc i (pos 0) *ℤ getD vd j (pos 0)) (sumℤ vd) (cellAt (length vd) cells i j)
+            (below-at (length vd) (fine i) (below-at (length vc) (λ m. below (length vd) (fine m)) (and-right fit all-fine s) i h) j k);
+        row = λ i h. eqZ-true (Σ< (length vd) (λ j. cellAt (length vd) cells i j)) (getD vc i (pos 0))
+            (below-at (length vc) row-right (and-left (below (length vc) row-right) (below (length vd) column-right) t) i h);
+        column = λ j h. eqZ-true (Σ< (length vc) (λ i. cellAt (length vd) cells i j)) (getD vd j (pos 0))
+            (below-at (length vd) column-right (and-right (below (length vc) row-right) (below (length vd) column-right) t) j h);
       }

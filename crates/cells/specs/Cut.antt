@@ -29,7 +29,8 @@ in? zero = 1
 in? (suc n) = 0
 
 -- for one cell, with r and g for its row and its column: [r ∈ R] · y + [g ∈ C] · cap · mark ≤ [g ∈ C] · y + [r ∈ R] · cap · mark
-cell : (r g s y cap : ℕ) → s ≤ 2 → y ≤ cap → (s ≡ 0 → y ≡ 0) → (r ≡ 0 → s ≡ 1 → g ≡ 0) → (g ≡ 0 → s ≡ 2 → r ≡ 0) → in? r * y + in? g * (cap * (s - 1)) ≤ in? g * y + in? r * (cap * (s - 1))
+cell : (r g s y cap : ℕ) → s ≤ 2 → y ≤ cap → (s ≡ 0 → y ≡ 0) → (r ≡ 0 → s ≡ 1 → g ≡ 0) → (g ≡ 0 → s ≡ 2 → r ≡ 0)
+    → in? r * y + in? g * (cap * (s - 1)) ≤ in? g * y + in? r * (cap * (s - 1))
 cell zero zero s y cap a b c d e = omega arith
 cell (suc r) (suc g) s y cap a b c d e = omega arith
 cell zero (suc g) zero y cap a b c d e = omega (arith, c refl)
@@ -83,11 +84,19 @@ module _ (m n cap : ℕ) (s y : ℕ → ℕ → ℕ) (k c R C : ℕ → ℕ) (W 
   most-in i h = member (R i) cap (most i h)
 
   -- the cells, summed
-  both : Σ m (λ i. Σ n (λ j. in? (R i) * y i j)) + Σ m (λ i. Σ n (λ j. in? (C j) * (cap * (s i j - 1)))) ≤ Σ m (λ i. Σ n (λ j. in? (C j) * y i j)) + Σ m (λ i. Σ n (λ j. in? (R i) * (cap * (s i j - 1))))
+  both : Σ m (λ i. Σ n (λ j. in? (R i) * y i j)) + Σ m (λ i. Σ n (λ j. in? (C j) * (cap * (s i j - 1))))
+      ≤ Σ m (λ i. Σ n (λ j. in? (C j) * y i j)) + Σ m (λ i. Σ n (λ j. in? (R i) * (cap * (s i j - 1))))
   both =
-      let l : Σ m (λ i. Σ n (λ j. in? (R i) * y i j + in? (C j) * (cap * (s i j - 1)))) ≤ Σ m (λ i. Σ n (λ j. in? (C j) * y i j + in? (R i) * (cap * (s i j - 1)))) =
-      Σ-mono m _ _ (λ i h. Σ-mono n _ _ (λ j h′. cell (R i) (C j) (s i j) (y i j) cap (small i j h h′) (W .most i j h h′) (W .whole i j h h′) (Z .row i j h h′) (Z .col i j h h′))) in
-      omega (arith, l, split (λ i j. in? (R i) * y i j) (λ i j. in? (C j) * (cap * (s i j - 1))), split (λ i j. in? (C j) * y i j) (λ i j. in? (R i) * (cap * (s i j - 1))))
+      let l : Σ m (λ i. Σ n (λ j. in? (R i) * y i j + in? (C j) * (cap * (s i j - 1))))
+      ≤ Σ m (λ i. Σ n (λ j. in? (C j) * y i j + in? (R i) * (cap * (s i j - 1)))) =
+      Σ-mono m _ _ (λ i h. Σ-mono n _ _ (λ j h′. cell (R i) (C j) (s i j) (y i j) cap (small i j h h′) (W .most i j h h′) (W .whole i j h h′) (Z .row i j h h′)
+      (Z .col i j h h′))) in
+      omega (
+        arith,
+        l,
+        split (λ i j. in? (R i) * y i j) (λ i j. in? (C j) * (cap * (s i j - 1))),
+        split (λ i j. in? (C j) * y i j) (λ i j. in? (R i) * (cap * (s i j - 1))),
+      )
     where
       split : (f g : ℕ → ℕ → ℕ) → Σ m (λ i. Σ n (λ j. f i j + g i j)) ≡ Σ m (λ i. Σ n (λ j. f i j)) + Σ m (λ i. Σ n (λ j. g i j))
       split f g = Σ-ext m _ _ (λ i h. Σ-add n (f i) (g i)) ∙ Σ-add m _ _

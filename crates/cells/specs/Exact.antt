@@ -101,7 +101,8 @@ pub record Left (m n : ℕ) (vc : ℕ → ℤ) (vd : ℕ → ℕ) (q : ℕ → �
   pub cols : (j : ℕ) → j < n → pos (vd j) ≡ Σ< m (λ i. q i j) +ℤ pos (getD wants j 0)
 
 -- the remainders are the witness
-pub feasible : {m n w : ℕ} {vc : ℕ → ℤ} {vd : ℕ → ℕ} {q : ℕ → ℕ → ℤ} {r : ℕ → ℕ → ℕ} {marks lacks wants : List ℕ} → Exact m n w vc vd q r → Left m n vc vd q r marks lacks wants → Feasible m n marks lacks wants
+pub feasible : {m n w : ℕ} {vc : ℕ → ℤ} {vd : ℕ → ℕ} {q : ℕ → ℕ → ℤ} {r : ℕ → ℕ → ℕ} {marks lacks wants : List ℕ} → Exact m n w vc vd q r
+    → Left m n vc vd q r marks lacks wants → Feasible m n marks lacks wants
 feasible {m} {n} {w} {r = r} {marks = marks} {lacks = lacks} {wants = wants} E L = record {
   cap = w;
   y = r;

@@ -39,7 +39,8 @@ tabulate-at (suc n) f d (suc k) h = tabulate-at n (λ k. f (suc k)) d k (le-of-s
 
 -- row by row: the entry of row i and column j
 grid-at : {A : Type 0} (m n : ℕ) (f : ℕ → ℕ → A) (d : A) (i j : ℕ) → i < m → j < n → getD (tabulate (m * n) (λ p. f (p / n) (p % n))) (i * n + j) d ≡ f i j
-grid-at m n f d i j h k = tabulate-at (m * n) (λ p. f (p / n) (p % n)) d (i * n + j) (below h k) ∙ ap (λ (t : ℕ). f t ((i * n + j) % n)) (digits-div i k) ∙ ap (f i) (digits-mod i k)
+grid-at m n f d i j h k = tabulate-at (m * n) (λ p. f (p / n) (p % n)) d (i * n + j) (below h k) ∙ ap (λ (t : ℕ). f t ((i * n + j) % n)) (digits-div i k)
+    ∙ ap (f i) (digits-mod i k)
 
 pub record HasTable (vc vd : List ℤ) : Type 0 where
   pub cells : List ℤ
@@ -78,7 +79,8 @@ module _ (vc : List ℤ) (debits : List ℕ) (w : ℕ) (B : Balanced vc debits w
   marks-long = tabulate-long (length vc * length debits) _
 
   clear : (p : ℕ) → getD marks p 0 ≤ 1
-  clear p = ⊎-elim (λ l. omega (arith, List·getD-eq-default marks 0 (subst (λ (t : ℕ). t ≤ p) (sym marks-long) l))) (λ l. inside l (spot (length vc) (length debits) p l)) (le-or-lt (length vc * length debits) p)
+  clear p = ⊎-elim (λ l. omega (arith, List·getD-eq-default marks 0 (subst (λ (t : ℕ). t ≤ p) (sym marks-long) l)))
+      (λ l. inside l (spot (length vc) (length debits) p l)) (le-or-lt (length vc * length debits) p)
     where
       inside : p < length vc * length debits → Spot (length vc) (length debits) p → getD marks p 0 ≤ 1
       inside l s =
@@ -106,16 +108,19 @@ module _ (vc : List ℤ) (debits : List ℕ) (w : ℕ) (B : Balanced vc debits w
   placed : AllPlaced (length vc) (length debits) marks lacks wants
   unfolding lacks wants
   placed =
-      all-placed (length vc) (length debits) marks lacks wants (feasible (exact B) (floored .left)) (λ p. omega (arith, clear p)) marks-long (tabulate-long (length vc) _) (tabulate-long (length debits) _)
+      all-placed (length vc) (length debits) marks lacks wants (feasible (exact B) (floored .left)) (λ p. omega (arith, clear p)) marks-long
+      (tabulate-long (length vc) _) (tabulate-long (length debits) _)
 
   cellOf : ℕ → ℕ → ℤ
   cellOf i j = quotOf vc debits w i j +ℤ pos (at (length debits) (placed .marks′) i j - 1)
 
-  has-table : (vd : List ℤ) → length debits ≡ length vd → ((j : ℕ) → j < length vd → getD vd j (pos 0) ≡ pos (debitOf debits j)) → sumℤ vd ≡ pos w → HasTable vc vd
+  has-table : (vd : List ℤ) → length debits ≡ length vd → ((j : ℕ) → j < length vd → getD vd j (pos 0) ≡ pos (debitOf debits j)) → sumℤ vd ≡ pos w
+      → HasTable vc vd
   unfolding cellOf
   has-table vd long debit sum = record {
     cells = tabulate (length vc * length debits) (λ p. cellOf (p / length debits) (p % length debits));
-    holds = table B long debit sum floored (placed .placed) (tabulate (length vc * length debits) (λ p. cellOf (p / length debits) (p % length debits))) (λ i j h k. grid-at (length vc) (length debits) cellOf (pos 0) i j h k) (tabulate-long (length vc * length debits) _);
+    holds = table B long debit sum floored (placed .placed) (tabulate (length vc * length debits) (λ p. cellOf (p / length debits) (p % length debits)))
+        (λ i j h k. grid-at (length vc) (length debits) cellOf (pos 0) i j h k) (tabulate-long (length vc * length debits) _);
   }
 
 -- ---- the theorem

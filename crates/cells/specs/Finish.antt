@@ -52,7 +52,8 @@ pub unsigned : {vc vd : List ℤ} → Fillable vc vd → (debits : List ℕ) →
 unsigned {vc} {vd} F debits e = record { long = e; sign = F .debits; most = omega (za, F .most, eq-in (sum-is vd (F .debits))) }
 
 -- what was written as naturals are the debits, and their sum is w
-pub given : {vc vd : List ℤ} {debits debits′ : List ℕ} {w : ℕ} → Fillable vc vd → length debits ≡ length vd → Naturals vd debits debits′ (length vd) w → Given vc debits′ w
+pub given : {vc vd : List ℤ} {debits debits′ : List ℕ} {w : ℕ} → Fillable vc vd → length debits ≡ length vd → Naturals vd debits debits′ (length vd) w
+    → Given vc debits′ w
 given {vc} {vd} {debits} {debits′} {w} F e N =
     let s : sumℤ vd ≡ pos w = sum-is vd (F .debits) ∙ ap pos (sym (N .total)) in
     let l : length debits′ ≡ length vd = N .wrote .long ∙ e in record {
@@ -75,13 +76,15 @@ pub record PostAsks (cells : List ℤ) (marks : List ℕ) : Type 0 where
   pub marked : (p : ℕ) → getD marks p 0 ≤ 2
   pub small : Small 100000000000000000 cells
 
-pub post-fits : {cells out : List ℤ} {marks : List ℕ} {i : ℕ} → PostAsks cells marks → Posted cells marks out i → i < length cells → SFits w64 (getD out i (pos 0) +ℤ pos (getD marks i 0 - 1)) × SFits w64 (getD out i (pos 0))
+pub post-fits : {cells out : List ℤ} {marks : List ℕ} {i : ℕ} → PostAsks cells marks → Posted cells marks out i → i < length cells
+    → SFits w64 (getD out i (pos 0) +ℤ pos (getD marks i 0 - 1)) × SFits w64 (getD out i (pos 0))
 post-fits {cells} {out} {marks} {i} A F h =
     let e : getD out i (pos 0) ≡ getD cells i (pos 0) = F .after i (omega arith) in
     rw e (omega (za, A .small .small i h, A .marked i, add# (getD cells i (pos 0)) (pos (getD marks i 0 - 1))))
 
 -- a floor is no larger than its row's credit
-pub cells-small : {vc : List ℤ} {debits : List ℕ} {w : ℕ} {cells : List ℤ} {marks lacks wants : List ℕ} → Given vc debits w → Floored vc debits w cells marks lacks wants → length cells ≡ length vc * length debits → Small 100000000000000000 cells
+pub cells-small : {vc : List ℤ} {debits : List ℕ} {w : ℕ} {cells : List ℤ} {marks lacks wants : List ℕ} → Given vc debits w
+    → Floored vc debits w cells marks lacks wants → length cells ≡ length vc * length debits → Small 100000000000000000 cells
 cells-small {vc} {debits} {w} {cells} G F e = record { small = λ p h. inside p (subst (λ (t : ℕ). p < t) e h) }
   where
     inside : (p : ℕ) → p < length vc * length debits → abs (getD cells p (pos 0)) ≤ 100000000000000000
@@ -93,11 +96,15 @@ cells-small {vc} {debits} {w} {cells} G F e = record { small = λ p h. inside p 
         (omega (
           arith,
           G .values .small (p / length debits) (s .row),
-          share-small (creditOf vc (p / length debits)) (debitOf debits (p % length debits)) w (parts (G .balanced) (p % length debits)) (G .balanced .some) (floor-is (creditOf vc (p / length debits) *ℤ pos (debitOf debits (p % length debits))) w (G .balanced .some)),
+          share-small (creditOf vc (p / length debits)) (debitOf debits (p % length debits)) w (parts (G .balanced) (p % length debits)) (G .balanced .some)
+              (floor-is (creditOf vc (p / length debits) *ℤ pos (debitOf debits (p % length debits))) w (G .balanced .some)),
         ))
 
 -- ---- what the search asks
-pub wanted : {vc : List ℤ} {debits : List ℕ} {w : ℕ} {cells : List ℤ} {marks lacks wants : List ℕ} → Given vc debits w → Floored vc debits w cells marks lacks wants → {marks′ lacks′ wants′ rows columns : List ℕ} → Kept (length vc) (length debits) marks lacks wants marks′ lacks′ wants′ → length marks ≡ length vc * length debits → length lacks ≡ length vc → length wants ≡ length debits → length rows ≡ length vc → length columns ≡ length debits → Wanted marks′ lacks′ wants′ rows columns
+pub wanted : {vc : List ℤ} {debits : List ℕ} {w : ℕ} {cells : List ℤ} {marks lacks wants : List ℕ} → Given vc debits w
+    → Floored vc debits w cells marks lacks wants → {marks′ lacks′ wants′ rows columns : List ℕ}
+    → Kept (length vc) (length debits) marks lacks wants marks′ lacks′ wants′ → length marks ≡ length vc * length debits → length lacks ≡ length vc
+    → length wants ≡ length debits → length rows ≡ length vc → length columns ≡ length debits → Wanted marks′ lacks′ wants′ rows columns
 wanted G F K a b c d e = record {
   shape = record { cells = K .cells ∙ a ∙ sym (ap₂ _*_ d e); wide = K .wide ∙ c ∙ sym e };
   tall = K .tall ∙ b ∙ sym d;
@@ -106,11 +113,13 @@ wanted G F K a b c d e = record {
 }
 
 -- what was dealt counts with what was placed
-placed-after : {m n : ℕ} {marks lacks wants marks′ lacks′ wants′ ys : List ℕ} → Kept m n marks lacks wants marks′ lacks′ wants′ → Placed m n marks′ lacks′ wants′ ys → Placed m n marks lacks wants ys
+placed-after : {m n : ℕ} {marks lacks wants marks′ lacks′ wants′ ys : List ℕ} → Kept m n marks lacks wants marks′ lacks′ wants′
+    → Placed m n marks′ lacks′ wants′ ys → Placed m n marks lacks wants ys
 placed-after K P = record { rows = λ i h. P .rows i h ∙ K .rows i h; cols = λ j h. P .cols j h ∙ K .cols j h; kind = kind-then (K .kind) (P .kind) }
 
 -- ---- a cell, a row, a column
-cell-by : (x : ℤ) (w r a b : ℕ) (v : ℤ) → Split x w (floor x (pos w)) r → (a ≡ 1 → 0 < r) → a ≤ 1 → b ≤ 2 → min 1 b ≡ min 1 a → v ≡ floor x (pos w) +ℤ pos (b - 1) → Cell x (pos w) v
+cell-by : (x : ℤ) (w r a b : ℕ) (v : ℤ) → Split x w (floor x (pos w)) r → (a ≡ 1 → 0 < r) → a ≤ 1 → b ≤ 2 → min 1 b ≡ min 1 a
+    → v ≡ floor x (pos w) +ℤ pos (b - 1) → Cell x (pos w) v
 cell-by x w r a zero v s k l m z e = rounded-down (omega (za, eq-in e, add# (floor x (pos w)) (pos 0)))
 cell-by x w r a (suc zero) v s k l m z e = rounded-down (omega (za, eq-in e, add# (floor x (pos w)) (pos 0)))
 cell-by x w r a (suc (suc zero)) v s k l m z e =
@@ -123,8 +132,10 @@ line-by n t q b v k h e f =
     ℤs.Σ-ext n t (λ j. q j +ℤ pos (b j)) h ∙ Σ-add n q (λ j. pos (b j)) ∙ ap (λ (z : ℤ). Σ< n q +ℤ z) (Σ-pos n b ∙ ap pos e) ∙ sym f
 
 -- ---- the table
-module _ {vc vd : List ℤ} {debits : List ℕ} {w : ℕ} (B : Balanced vc debits w) (long : length debits ≡ length vd) (debit : (j : ℕ) → j < length vd → getD vd j (pos 0) ≡ pos (debitOf debits j)) (sum : sumℤ vd ≡ pos w)
-    {cells : List ℤ} {marks lacks wants : List ℕ} (F : Floored vc debits w cells marks lacks wants) {ys : List ℕ} (P : Placed (length vc) (length debits) marks lacks wants ys) (out : List ℤ)
+module _ {vc vd : List ℤ} {debits : List ℕ} {w : ℕ} (B : Balanced vc debits w) (long : length debits ≡ length vd) (debit : (j : ℕ) → j < length vd
+    → getD vd j (pos 0) ≡ pos (debitOf debits j)) (sum : sumℤ vd ≡ pos w)
+    {cells : List ℤ} {marks lacks wants : List ℕ} (F : Floored vc debits w cells marks lacks wants) {ys : List ℕ} (P
+    : Placed (length vc) (length debits) marks lacks wants ys) (out : List ℤ)
     (put : (i j : ℕ) → i < length vc → j < length debits → cellAt (length debits) out i j ≡ quotOf vc debits w i j +ℤ pos (at (length debits) ys i j - 1)) where
   pub table : length out ≡ length vc * length debits → Table vc vd out
   unfolding row col
@@ -133,18 +144,27 @@ module _ {vc vd : List ℤ} {debits : List ℕ} {w : ℕ} (B : Balanced vc debit
     cell = λ i j h k.
         let k′ : j < length debits = subst (λ (t : ℕ). j < t) (sym long) k in
         rw (debit j k, sum, sym long)
-        (cell-by (creditOf vc i *ℤ pos (debitOf debits j)) w (restOf vc debits w i j) (at (length debits) marks i j) (at (length debits) ys i j) (cellAt (length debits) out i j) (exact B .split i j h k′) (F .left .broken i j h k′) (F .left .clear (i * length debits + j)) (P .kind .small (i * length debits + j) (omega (arith, F .left .clear (i * length debits + j)))) (P .kind .whole (i * length debits + j)) (put i j h k′));
+        (cell-by (creditOf vc i *ℤ pos (debitOf debits j)) w (restOf vc debits w i j) (at (length debits) marks i j) (at (length debits) ys i j)
+        (cellAt (length debits) out i j) (exact B .split i j h k′) (F .left .broken i j h k′) (F .left .clear (i * length debits + j))
+        (P .kind .small (i * length debits + j) (omega (arith, F .left .clear (i * length debits + j)))) (P .kind .whole (i * length debits + j))
+        (put i j h k′));
     row = λ i h.
         rw (sym long)
-        (line-by (length debits) (λ j. cellAt (length debits) out i j) (λ j. quotOf vc debits w i j) (λ j. at (length debits) ys i j - 1) (creditOf vc i) (getD lacks i 0) (λ j k. put i j h k) (P .rows i h ∙ omega (arith, row-none (length debits) marks i (F .left .clear))) (F .left .rows i h));
+        (line-by (length debits) (λ j. cellAt (length debits) out i j) (λ j. quotOf vc debits w i j) (λ j. at (length debits) ys i j - 1) (creditOf vc i)
+        (getD lacks i 0) (λ j k. put i j h k) (P .rows i h ∙ omega (arith, row-none (length debits) marks i (F .left .clear))) (F .left .rows i h));
     column = λ j k.
         let k′ : j < length debits = subst (λ (t : ℕ). j < t) (sym long) k in
         rw (debit j k, sym long)
-        (line-by (length vc) (λ i. cellAt (length debits) out i j) (λ i. quotOf vc debits w i j) (λ i. at (length debits) ys i j - 1) (pos (debitOf debits j)) (getD wants j 0) (λ i h. put i j h k′) (P .cols j k′ ∙ omega (arith, col-none (length vc) (length debits) marks j (F .left .clear))) (F .left .cols j k′));
+        (line-by (length vc) (λ i. cellAt (length debits) out i j) (λ i. quotOf vc debits w i j) (λ i. at (length debits) ys i j - 1) (pos (debitOf debits j))
+        (getD wants j 0) (λ i h. put i j h k′) (P .cols j k′ ∙ omega (arith, col-none (length vc) (length debits) marks j (F .left .clear)))
+        (F .left .cols j k′));
   }
 
 -- all of `lay`
-pub laid : {vc vd : List ℤ} {debits debits′ : List ℕ} {w : ℕ} → Fillable vc vd → length debits ≡ length vd → Naturals vd debits debits′ (length vd) w → {cells : List ℤ} {marks lacks wants marks′ lacks′ wants′ ys : List ℕ} → Floored vc debits′ w cells marks lacks wants → length cells ≡ length vc * length vd → {m n : ℕ} → m ≡ length vc → n ≡ length vd → Kept m n marks lacks wants marks′ lacks′ wants′ → {m′ n′ : ℕ} → m′ ≡ length vc → n′ ≡ length vd → Placed m′ n′ marks′ lacks′ wants′ ys → (out : List ℤ) → Posted cells ys out (length cells) → Table vc vd out
+pub laid : {vc vd : List ℤ} {debits debits′ : List ℕ} {w : ℕ} → Fillable vc vd → length debits ≡ length vd → Naturals vd debits debits′ (length vd) w
+    → {cells : List ℤ} {marks lacks wants marks′ lacks′ wants′ ys : List ℕ} → Floored vc debits′ w cells marks lacks wants
+    → length cells ≡ length vc * length vd → {m n : ℕ} → m ≡ length vc → n ≡ length vd → Kept m n marks lacks wants marks′ lacks′ wants′ → {m′ n′ : ℕ}
+    → m′ ≡ length vc → n′ ≡ length vd → Placed m′ n′ marks′ lacks′ wants′ ys → (out : List ℤ) → Posted cells ys out (length cells) → Table vc vd out
 laid {vc} {vd} {debits} {debits′} {w} F e N {cells} {ys = ys} L l a b K c d P out Q =
     let long : length debits′ ≡ length vd = N .wrote .long ∙ e in
     let K′ : Kept (length vc) (length debits′) _ _ _ _ _ _ = rw (a, b ∙ sym long) at K in
@@ -153,7 +173,8 @@ laid {vc} {vd} {debits} {debits′} {w} F e N {cells} {ys = ys} L l a b K c d P 
     (λ j h. debit-is (F .debits) j h ∙ ap pos (sym (rw zero-add at (N .wrote .done j h))))
     (sum-is vd (F .debits) ∙ ap pos (sym (N .total)))
     L (placed-after K′ P′) out
-    (λ i j h k. (rw zero-add at (Q .done (i * length debits′ + j) (subst (λ (t : ℕ). i * length debits′ + j < t) (sym (l ∙ ap (λ (t : ℕ). length vc * t) (sym long))) (below h k)))) ∙ ap (λ (t : ℤ). t +ℤ pos (getD ys (i * length debits′ + j) 0 - 1)) (L .cell i j h k))
+    (λ i j h k. (rw zero-add at (Q .done (i * length debits′ + j) (subst (λ (t : ℕ). i * length debits′ + j < t) (sym (l
+    ∙ ap (λ (t : ℕ). length vc * t) (sym long))) (below h k)))) ∙ ap (λ (t : ℤ). t +ℤ pos (getD ys (i * length debits′ + j) 0 - 1)) (L .cell i j h k))
     (Q .long ∙ l ∙ ap (λ (t : ℕ). length vc * t) (sym long))
 
 -- ---- a part of a fresh array

@@ -43,7 +43,8 @@ pub record Given (vc : List ℤ) (debits : List ℕ) (w : ℕ) : Type 0 where
   pub values : Small 100000000000000000 vc
   pub tall : length vc ≤ 257
 
-pub exact : {vc : List ℤ} {debits : List ℕ} {w : ℕ} → Balanced vc debits w → Exact (length vc) (length debits) w (creditOf vc) (debitOf debits) (quotOf vc debits w) (restOf vc debits w)
+pub exact : {vc : List ℤ} {debits : List ℕ} {w : ℕ} → Balanced vc debits w → Exact (length vc) (length debits) w (creditOf vc) (debitOf debits)
+    (quotOf vc debits w) (restOf vc debits w)
 exact {vc} {debits} {w} G = record {
   some = G .some;
   users = G .users;
@@ -54,7 +55,8 @@ exact {vc} {debits} {w} G = record {
 -- no debit is above the sum
 pub parts : {vc : List ℤ} {debits : List ℕ} {w : ℕ} → Balanced vc debits w → (k : ℕ) → getD debits k 0 ≤ w
 parts {vc} {debits} {w} B k =
-    ⊎-elim (λ h. omega (arith, List·getD-eq-default debits 0 h)) (λ h. omega (arith, Σ-part (length debits) (debitOf debits) k h, B .users)) (le-or-lt (length debits) k)
+    ⊎-elim (λ h. omega (arith, List·getD-eq-default debits 0 h)) (λ h. omega (arith, Σ-part (length debits) (debitOf debits) k h, B .users))
+    (le-or-lt (length debits) k)
 
 -- the slices that are written
 pub record Slices (vc : List ℤ) (debits : List ℕ) (cells : List ℤ) (marks lacks wants lefts : List ℕ) : Type 0 where
@@ -82,7 +84,8 @@ pub record Rowed (vc : List ℤ) (debits : List ℕ) (w : ℕ) (cells : List ℤ
   pub wants-long : length wants ≡ length debits
   pub lefts-long : length lefts ≡ length debits
 
-pub rowed-none : {vc : List ℤ} {debits : List ℕ} {w : ℕ} {cells : List ℤ} {marks lacks wants lefts : List ℕ} → Given vc debits w → Slices vc debits cells marks lacks wants lefts → Rowed vc debits w cells marks lacks wants lefts 0
+pub rowed-none : {vc : List ℤ} {debits : List ℕ} {w : ℕ} {cells : List ℤ} {marks lacks wants lefts : List ℕ} → Given vc debits w
+    → Slices vc debits cells marks lacks wants lefts → Rowed vc debits w cells marks lacks wants lefts 0
 unfolding Σ
 rowed-none {w = w} G o = record {
   here = omega arith;
@@ -100,7 +103,8 @@ rowed-none {w = w} G o = record {
   lefts-long = o .lefts-long;
 }
 
-module _ {vc : List ℤ} {debits : List ℕ} {w : ℕ} (G : Given vc debits w) {cells : List ℤ} {marks lacks wants lefts : List ℕ} {i : ℕ} (R : Rowed vc debits w cells marks lacks wants lefts i) (h : i < length vc) where
+module _ {vc : List ℤ} {debits : List ℕ} {w : ℕ} (G : Given vc debits w) {cells : List ℤ} {marks lacks wants lefts : List ℕ} {i : ℕ} (R
+    : Rowed vc debits w cells marks lacks wants lefts i) (h : i < length vc) where
   room : i * length debits + length debits ≤ length vc * length debits
   room = omega (arith, mul-le-mul-right (length debits) h)
 
@@ -114,11 +118,14 @@ module _ {vc : List ℤ} {debits : List ℕ} {w : ℕ} (G : Given vc debits w) {
     room′ = omega (arith, room, R .marks-long);
     wants-long = R .wants-long;
     lefts-long = R .lefts-long;
-    few = λ k. ⊎-elim (λ l. omega (arith, List·getD-eq-default wants 0 (subst (λ (t : ℕ). t ≤ k) (sym (R .wants-long)) l))) (λ l. omega (arith, R .few k l, G .tall)) (le-or-lt (length debits) k);
-    less = λ k. ⊎-elim (λ l. omega (arith, G .balanced .some, List·getD-eq-default lefts 0 (subst (λ (t : ℕ). t ≤ k) (sym (R .lefts-long)) l))) (λ l. R .less k l) (le-or-lt (length debits) k);
+    few = λ k. ⊎-elim (λ l. omega (arith, List·getD-eq-default wants 0 (subst (λ (t : ℕ). t ≤ k) (sym (R .wants-long)) l)))
+        (λ l. omega (arith, R .few k l, G .tall)) (le-or-lt (length debits) k);
+    less = λ k. ⊎-elim (λ l. omega (arith, G .balanced .some, List·getD-eq-default lefts 0 (subst (λ (t : ℕ). t ≤ k) (sym (R .lefts-long)) l)))
+        (λ l. R .less k l) (le-or-lt (length debits) k);
   }
 
-  pub rowed-more : {cells′ : List ℤ} {marks′ wants′ lefts′ : List ℕ} {k : ℕ} → RowFloors (creditOf vc i) debits w cells marks wants lefts (i * length debits) cells′ marks′ wants′ lefts′ (length debits) k → Rowed vc debits w cells′ marks′ (set lacks i k) wants′ lefts′ (i + 1)
+  pub rowed-more : {cells′ : List ℤ} {marks′ wants′ lefts′ : List ℕ} {k : ℕ} → RowFloors (creditOf vc i) debits w cells marks wants lefts
+      (i * length debits) cells′ marks′ wants′ lefts′ (length debits) k → Rowed vc debits w cells′ marks′ (set lacks i k) wants′ lefts′ (i + 1)
   unfolding Σ
   rowed-more {cells′} {marks′} {wants′} {lefts′} {k} F =
       let same : getD (set lacks i k) i 0 ≡ k = getD-set-same lacks i k 0 (omega (arith, R .lacks-long)) in record {
@@ -163,11 +170,13 @@ pub record Floored (vc : List ℤ) (debits : List ℕ) (w : ℕ) (cells : List �
   pub cell : (i j : ℕ) → i < length vc → j < length debits → getD cells (i * length debits + j) (pos 0) ≡ quotOf vc debits w i j
   pub left : Left (length vc) (length debits) (creditOf vc) (debitOf debits) (quotOf vc debits w) (restOf vc debits w) marks lacks wants
 
-pub floored : {vc : List ℤ} {debits : List ℕ} {w : ℕ} → Given vc debits w → {cells : List ℤ} {marks lacks wants lefts : List ℕ} (i : ℕ) → Rowed vc debits w cells marks lacks wants lefts i → length vc ≤ i → Floored vc debits w cells marks lacks wants
+pub floored : {vc : List ℤ} {debits : List ℕ} {w : ℕ} → Given vc debits w → {cells : List ℤ} {marks lacks wants lefts : List ℕ} (i : ℕ)
+    → Rowed vc debits w cells marks lacks wants lefts i → length vc ≤ i → Floored vc debits w cells marks lacks wants
 floored {vc} {debits} {w} G {cells} {marks} {lacks} {wants} {lefts} i R h = record {
   cell = λ b j l k. R .cell b j (omega arith) k;
   left = record {
-    clear = λ p. ⊎-elim (λ l. omega (arith, List·getD-eq-default marks 0 (subst (λ (t : ℕ). t ≤ p) (sym (R .marks-long)) l))) (λ l. inside p l) (le-or-lt (length vc * length debits) p);
+    clear = λ p. ⊎-elim (λ l. omega (arith, List·getD-eq-default marks 0 (subst (λ (t : ℕ). t ≤ p) (sym (R .marks-long)) l))) (λ l. inside p l)
+        (le-or-lt (length vc * length debits) p);
     whole = λ b j l k e. omega (arith, R .mark b j (omega arith) k);
     broken = λ b j l k e. omega (arith, R .mark b j (omega arith) k);
     rows = λ b l. want-is (getD lacks b 0) (G .balanced .some) (row-line (exact (G .balanced)) b l) (R .low b (omega arith)) (R .high b (omega arith));

@@ -24,7 +24,8 @@ pub record Kept (m n : ℕ) (marks lacks wants marks′ lacks′ wants′ : List
 pub kept-none : {m n : ℕ} (marks lacks wants : List ℕ) → Kept m n marks lacks wants marks lacks wants
 kept-none marks lacks wants = record { rows = λ b h. refl; cols = λ x h. refl; kind = kind-same marks; cells = refl; tall = refl; wide = refl }
 
-pub kept-then : {m n : ℕ} {marks lacks wants marks′ lacks′ wants′ marks″ lacks″ wants″ : List ℕ} → Kept m n marks lacks wants marks′ lacks′ wants′ → Kept m n marks′ lacks′ wants′ marks″ lacks″ wants″ → Kept m n marks lacks wants marks″ lacks″ wants″
+pub kept-then : {m n : ℕ} {marks lacks wants marks′ lacks′ wants′ marks″ lacks″ wants″ : List ℕ} → Kept m n marks lacks wants marks′ lacks′ wants′
+    → Kept m n marks′ lacks′ wants′ marks″ lacks″ wants″ → Kept m n marks lacks wants marks″ lacks″ wants″
 kept-then a b = record {
   rows = λ i h. b .rows i h ∙ a .rows i h;
   cols = λ j h. b .cols j h ∙ a .cols j h;
@@ -46,7 +47,9 @@ less-one l i b h o = go (ℕ-discrete b i)
     go (no f) = rw (getD-set-other l i b (getD l i 0 - 1) 0 f) (omega (arith, one-other b i f))
 
 -- a mark at (i, j), where the row lacks one and the column wants one
-pub kept-mark : {m n : ℕ} (marks lacks wants : List ℕ) (i j : ℕ) → i < m → j < n → i * n + j < length marks → i < length lacks → j < length wants → at n marks i j ≡ 1 → 0 < getD lacks i 0 → 0 < getD wants j 0 → Kept m n marks lacks wants (set marks (i * n + j) 2) (set lacks i (getD lacks i 0 - 1)) (set wants j (getD wants j 0 - 1))
+pub kept-mark : {m n : ℕ} (marks lacks wants : List ℕ) (i j : ℕ) → i < m → j < n → i * n + j < length marks → i < length lacks → j < length wants
+    → at n marks i j ≡ 1 → 0 < getD lacks i 0 → 0 < getD wants j 0 → Kept m n marks lacks wants (set marks (i * n + j) 2) (set lacks i (getD lacks i 0 - 1))
+    (set wants j (getD wants j 0 - 1))
 kept-mark {m} {n} marks lacks wants i j hi hj hp hl hw e l w =
     let s = mark {m = m} {n = n} marks i j hi hj hp e in record {
       rows = λ b h. omega (arith, s .rows b h, less-one lacks i b hl l);
@@ -63,7 +66,8 @@ pub record Feasible (m n : ℕ) (marks lacks wants : List ℕ) : Type 0 where
   pub y : ℕ → ℕ → ℕ
   pub witness : Witness m n cap (λ i j. at n marks i j) y (λ i. row n marks i + getD lacks i 0) (λ j. col m n marks j + getD wants j 0)
 
-pub still : {m n : ℕ} {marks lacks wants marks′ lacks′ wants′ : List ℕ} → Kept m n marks lacks wants marks′ lacks′ wants′ → Feasible m n marks lacks wants → Feasible m n marks′ lacks′ wants′
+pub still : {m n : ℕ} {marks lacks wants marks′ lacks′ wants′ : List ℕ} → Kept m n marks lacks wants marks′ lacks′ wants′ → Feasible m n marks lacks wants
+    → Feasible m n marks′ lacks′ wants′
 still {m} {n} k F = record {
   cap = F .cap;
   y = F .y;

@@ -55,7 +55,8 @@ pub record More (m n : ℕ) (xs ys : List ℕ) (i j : ℕ) : Type 0 where
   pub cols : (x : ℕ) → x < n → col m n ys x ≡ col m n xs x + one x j
   pub other : (b x : ℕ) → x < n → (b ≡ i → x ≡ j → ⊥) → at n ys b x ≡ at n xs b x
 
-more : {m n : ℕ} (xs ys : List ℕ) (i j : ℕ) → i < m → j < n → at n ys i j - 1 ≡ at n xs i j - 1 + 1 → ((p : ℕ) → (p ≡ i * n + j → ⊥) → getD ys p 0 ≡ getD xs p 0) → More m n xs ys i j
+more : {m n : ℕ} (xs ys : List ℕ) (i j : ℕ) → i < m → j < n → at n ys i j - 1 ≡ at n xs i j - 1 + 1
+    → ((p : ℕ) → (p ≡ i * n + j → ⊥) → getD ys p 0 ≡ getD xs p 0) → More m n xs ys i j
 unfolding row col
 more {m} {n} xs ys i j hi hj e o = record {
   rows = λ b h. in-row b h (ℕ-discrete b i);
@@ -66,12 +67,20 @@ more {m} {n} xs ys i j hi hj e o = record {
     in-row : (b : ℕ) → b < m → Dec (b ≡ i) → Σ n (λ j. at n ys b j - 1) ≡ Σ n (λ j. at n xs b j - 1) + one b i
     in-row b h (yes q) = rw (one-same b i q, q) (Σ-more n (λ j. at n xs i j - 1) (λ j. at n ys i j - 1) j hj e
         (λ x l f. ap (λ (v : ℕ). v - 1) (o (i * n + x) (λ p. f (same-col n i x i j l hj p)))))
-    in-row b h (no f) = rw (one-other b i f) (omega (arith, Σ-ext n (λ j. at n ys b j - 1) (λ j. at n xs b j - 1) (λ x l. ap (λ (v : ℕ). v - 1) (o (b * n + x) (λ p. f (same-row n b x i j l hj p))))))
+    in-row b h (no f) = rw (one-other b i f) (omega (
+      arith,
+      Σ-ext n (λ j. at n ys b j - 1) (λ j. at n xs b j - 1)
+          (λ x l. ap (λ (v : ℕ). v - 1) (o (b * n + x) (λ p. f (same-row n b x i j l hj p)))),
+    ))
 
     in-col : (x : ℕ) → x < n → Dec (x ≡ j) → Σ m (λ i. at n ys i x - 1) ≡ Σ m (λ i. at n xs i x - 1) + one x j
     in-col x h (yes q) = rw (one-same x j q, q) (Σ-more m (λ i. at n xs i j - 1) (λ i. at n ys i j - 1) i hi e
         (λ b l f. ap (λ (v : ℕ). v - 1) (o (b * n + j) (λ p. f (same-row n b j i j hj hj p)))))
-    in-col x h (no f) = rw (one-other x j f) (omega (arith, Σ-ext m (λ i. at n ys i x - 1) (λ i. at n xs i x - 1) (λ b l. ap (λ (v : ℕ). v - 1) (o (b * n + x) (λ p. f (same-col n b x i j h hj p))))))
+    in-col x h (no f) = rw (one-other x j f) (omega (
+      arith,
+      Σ-ext m (λ i. at n ys i x - 1) (λ i. at n xs i x - 1)
+          (λ b l. ap (λ (v : ℕ). v - 1) (o (b * n + x) (λ p. f (same-col n b x i j h hj p)))),
+    ))
 
 -- a mark is set, or taken back
 pub mark : {m n : ℕ} (xs : List ℕ) (i j : ℕ) → i < m → j < n → i * n + j < length xs → at n xs i j ≡ 1 → More m n xs (set xs (i * n + j) 2) i j

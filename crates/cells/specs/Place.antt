@@ -28,11 +28,13 @@ pub record Placed (m n : ℕ) (xs wr wc ys : List ℕ) : Type 0 where
   pub kind : Kind xs ys
 
 -- ---- a row that wants a mark finds one
-pub never : {m n : ℕ} {xs wr wc ro co ro′ co′ : List ℕ} → Feasible m n xs wr wc → ((p : ℕ) → getD xs p 0 ≤ 2) → ((b : ℕ) → b < m → 0 < getD ro b 0) → ((x : ℕ) → x < n → 0 < getD co x 0) → Shut m n xs wc ro co ro′ co′ → (i : ℕ) → i < m → getD ro′ i 0 ≡ 0 → 0 < getD wr i 0 → ⊥
+pub never : {m n : ℕ} {xs wr wc ro co ro′ co′ : List ℕ} → Feasible m n xs wr wc → ((p : ℕ) → getD xs p 0 ≤ 2) → ((b : ℕ) → b < m → 0 < getD ro b 0)
+    → ((x : ℕ) → x < n → 0 < getD co x 0) → Shut m n xs wc ro co ro′ co′ → (i : ℕ) → i < m → getD ro′ i 0 ≡ 0 → 0 < getD wr i 0 → ⊥
 unfolding row col
 never {m} {n} {xs} {wr} {wc} {ro} {co} {ro′} {co′} F small o o′ S i hi z w =
     let e : row n xs i ≡ row n xs i + getD wr i 0 =
-    cut-rows m n (F .cap) (λ i j. at n xs i j) (F .y) (λ i. row n xs i + getD wr i 0) (λ j. col m n xs j + getD wc j 0) (λ i. getD ro′ i 0) (λ j. getD co′ j 0) (F .witness)
+    cut-rows m n (F .cap) (λ i j. at n xs i j) (F .y) (λ i. row n xs i + getD wr i 0) (λ j. col m n xs j + getD wc j 0) (λ i. getD ro′ i 0) (λ j. getD co′ j 0)
+    (F .witness)
     (record { row = λ i j h k. S .row i j h k (o i h); col = λ i j h k. S .col i j h k (o′ j k) })
     (λ i j h k. small (i * n + j))
     (λ j h e. omega (arith, S .full j h (o′ j h) e))
@@ -53,7 +55,8 @@ rest {m} {n} {xs} {wr} {wc} F z x hx =
     ∙ Σ-scale n (F .cap) (λ j. col m n xs j + getD wc j 0) in
     let b : Σ n (λ j. col m n xs j + getD wc j 0) ≤ Σ m (λ i. row n xs i) = le-of-mul-le-mul-left {k = F .cap} (omega arith) (W .some) in
     let s : Σ m (λ i. row n xs i) ≡ Σ n (λ j. col m n xs j) = Σ-swap m n (λ i j. at n xs i j - 1) in
-    let e : col m n xs x ≡ col m n xs x + getD wc x 0 = Σ-same n (λ j. col m n xs j) (λ j. col m n xs j + getD wc j 0) (λ j h. omega arith) (omega arith) x hx in
+    let e : col m n xs x ≡ col m n xs x + getD wc x 0 = Σ-same n (λ j. col m n xs j) (λ j. col m n xs j + getD wc j 0) (λ j h. omega arith)
+    (omega arith) x hx in
     omega arith
 
 -- ---- the loop
@@ -93,7 +96,10 @@ module _ {m n : ℕ} {xs wr wc xs′ wr′ wc′ ro′ co′ : List ℕ} {i : �
       }
 
   -- the visit of row i, from open rows and columns, found a mark
-  pub going-on : Feasible m n xs wr wc → ((p : ℕ) → getD xs p 0 ≤ 2) → i < m → i < length wr′ → 0 < getD wr′ i 0 → {ro co : List ℕ} → length ro ≡ length ro′ → length co ≡ length co′ → ro ≡ replicate (length ro′) 1 → co ≡ replicate (length co′) 1 → {ys wd ro″ co″ : List ℕ} (r : Bool) → RowVisited (length ro) (length co) xs′ wc′ ro co ys wd ro″ co″ i r → length ys ≡ length xs′ → length wd ≡ length wc′ → length ro″ ≡ length ro → length co″ ≡ length co → Going m n xs wr wc ys (set wr′ i (getD wr′ i 0 - 1)) wd ro″ co″ i
+  pub going-on : Feasible m n xs wr wc → ((p : ℕ) → getD xs p 0 ≤ 2) → i < m → i < length wr′ → 0 < getD wr′ i 0 → {ro co : List ℕ} → length ro ≡ length ro′
+      → length co ≡ length co′ → ro ≡ replicate (length ro′) 1 → co ≡ replicate (length co′) 1 → {ys wd ro″ co″ : List ℕ} (r : Bool)
+      → RowVisited (length ro) (length co) xs′ wc′ ro co ys wd ro″ co″ i r → length ys ≡ length xs′ → length wd ≡ length wc′ → length ro″ ≡ length ro
+      → length co″ ≡ length co → Going m n xs wr wc ys (set wr′ i (getD wr′ i 0 - 1)) wd ro″ co″ i
   going-on F small hi hw w {ro} {co} kr kc er ec {ys} {wd} {ro″} {co″} r v ly lw lr lc = with-found (found r (rw (kr ∙ g .tall, kc ∙ g .long) at v))
     where
       open-row : (b : ℕ) → b < m → 0 < getD ro b 0

@@ -23,7 +23,8 @@ pub turn-start : {m n : ℕ} (xs wc ro co : List ℕ) → length ro ≡ m → le
 turn-start {m} {n} xs wc ro co a b = record { same = refl; wants = refl; shut = shut-none m n xs wc ro co; tall = a; long = b }
 
 -- a visit that found nothing
-pub turn-next : {m n : ℕ} {xs wc ro co xs′ wc′ ro′ co′ xs″ wc″ ro″ co″ : List ℕ} → Turn m n xs wc ro co xs′ wc′ ro′ co′ → xs″ ≡ xs′ → wc″ ≡ wc′ → Shut (length ro′) (length co′) xs′ wc′ ro′ co′ ro″ co″ → length ro″ ≡ length ro′ → length co″ ≡ length co′ → Turn m n xs wc ro co xs″ wc″ ro″ co″
+pub turn-next : {m n : ℕ} {xs wc ro co xs′ wc′ ro′ co′ xs″ wc″ ro″ co″ : List ℕ} → Turn m n xs wc ro co xs′ wc′ ro′ co′ → xs″ ≡ xs′ → wc″ ≡ wc′
+    → Shut (length ro′) (length co′) xs′ wc′ ro′ co′ ro″ co″ → length ro″ ≡ length ro′ → length co″ ≡ length co′ → Turn m n xs wc ro co xs″ wc″ ro″ co″
 turn-next t a b s p q = record {
   same = a ∙ t .same;
   wants = b ∙ t .wants;
@@ -46,7 +47,8 @@ module _ {m n : ℕ} {xs wc ro co : List ℕ} (i : ℕ) {xs′ wc′ ro′ co′
   pub row-skip : (at n xs′ i j ≡ 1 → getD co′ j 0 ≡ 0) → RowInv m n xs wc ro co i xs′ wc′ ro′ co′ (j + 1)
   row-skip f = (I .0, omega arith, below-more _ _ (I .2) (rw (I .0 .same) at f))
 
-  pub row-miss : {xs″ wc″ ro″ co″ : List ℕ} (r : Bool) → ColVisited (length ro′) (length co′) xs′ wc′ ro′ co′ xs″ wc″ ro″ co″ j r → r ≡ false → length ro″ ≡ length ro′ → length co″ ≡ length co′ → RowInv m n xs wc ro co i xs″ wc″ ro″ co″ (j + 1)
+  pub row-miss : {xs″ wc″ ro″ co″ : List ℕ} (r : Bool) → ColVisited (length ro′) (length co′) xs′ wc′ ro′ co′ xs″ wc″ ro″ co″ j r → r ≡ false
+      → length ro″ ≡ length ro′ → length co″ ≡ length co′ → RowInv m n xs wc ro co i xs″ wc″ ro″ co″ (j + 1)
   row-miss r v e p q =
       let o = v .none e in
       (turn-next (I .0) (o .0) (o .1) (o .2) p q, omega arith, below-more _ _ (λ x l h. o .2 .cols x (I .2 x l h)) (λ h. o .3))
@@ -59,11 +61,14 @@ module _ {m n : ℕ} {xs wc ro co : List ℕ} (i : ℕ) {xs′ wc′ ro′ co′
       still zero h = absurd (omega (arith, h refl))
       still (suc a) h = omega arith
 
-module _ {xs wc : List ℕ} (ro : List ℕ) {co : List ℕ} (i : ℕ) (hi : i < length ro) (o : 0 < getD ro i 0) {xs′ wc′ ro′ co′ : List ℕ} (j : ℕ) (I : RowInv (length ro) (length co) xs wc (set ro i 0) co i xs′ wc′ ro′ co′ j) where
+module _ {xs wc : List ℕ} (ro : List ℕ) {co : List ℕ} (i : ℕ) (hi : i < length ro) (o : 0 < getD ro i 0) {xs′ wc′ ro′ co′ : List ℕ} (j : ℕ) (I
+    : RowInv (length ro) (length co) xs wc (set ro i 0) co i xs′ wc′ ro′ co′ j) where
   pub row-less : total ro′ + total co′ < total ro + total co
   row-less = omega (arith, I .0 .shut .less, total-set ro i 0 hi)
 
-  pub row-hit : {xs″ wc″ ro″ co″ : List ℕ} (r : Bool) → j < length co → i * length co + j < length xs″ → at (length co) xs′ i j ≡ 1 → 0 < getD co′ j 0 → ColVisited (length ro′) (length co′) xs′ wc′ ro′ co′ xs″ wc″ ro″ co″ j r → r ≡ true → RowVisited (length ro) (length co) xs wc ro co (set xs″ (i * length co + j) 2) wc″ ro″ co″ i true
+  pub row-hit : {xs″ wc″ ro″ co″ : List ℕ} (r : Bool) → j < length co → i * length co + j < length xs″ → at (length co) xs′ i j ≡ 1 → 0 < getD co′ j 0
+      → ColVisited (length ro′) (length co′) xs′ wc′ ro′ co′ xs″ wc″ ro″ co″ j r → r ≡ true
+      → RowVisited (length ro) (length co) xs wc ro co (set xs″ (i * length co + j) 2) wc″ ro″ co″ i true
   row-hit r hj hp e o′ v y = record {
     found = λ _. row-turn i j hi hj hp hi (rw (I .0 .same) at e) o o′ (I .0 .shut) (rw (I .0 .same, I .0 .wants, I .0 .tall, I .0 .long) at (v .found y));
     none = true-false true refl;
@@ -85,16 +90,20 @@ module _ {m n : ℕ} {xs wc ro co : List ℕ} (j : ℕ) {xs′ wc′ ro′ co′
   pub col-skip : (at n xs′ i j ≡ 2 → getD ro′ i 0 ≡ 0) → ColInv m n xs wc ro co j xs′ wc′ ro′ co′ (i + 1)
   col-skip f = (I .0, omega arith, below-more _ _ (I .2) (rw (I .0 .same) at f))
 
-  pub col-miss : {xs″ wc″ ro″ co″ : List ℕ} (r : Bool) → RowVisited (length ro′) (length co′) xs′ wc′ ro′ co′ xs″ wc″ ro″ co″ i r → r ≡ false → length ro″ ≡ length ro′ → length co″ ≡ length co′ → ColInv m n xs wc ro co j xs″ wc″ ro″ co″ (i + 1)
+  pub col-miss : {xs″ wc″ ro″ co″ : List ℕ} (r : Bool) → RowVisited (length ro′) (length co′) xs′ wc′ ro′ co′ xs″ wc″ ro″ co″ i r → r ≡ false
+      → length ro″ ≡ length ro′ → length co″ ≡ length co′ → ColInv m n xs wc ro co j xs″ wc″ ro″ co″ (i + 1)
   col-miss r v e p q =
       let o = v .none e in
       (turn-next (I .0) (o .0) (o .1) (o .2) p q, omega arith, below-more _ _ (λ x l h. o .2 .rows x (I .2 x l h)) (λ h. o .3))
 
-module _ {xs wc ro : List ℕ} (co : List ℕ) (j : ℕ) (hj : j < length co) (o : 0 < getD co j 0) {xs′ wc′ ro′ co′ : List ℕ} (i : ℕ) (I : ColInv (length ro) (length co) xs wc ro (set co j 0) j xs′ wc′ ro′ co′ i) where
+module _ {xs wc ro : List ℕ} (co : List ℕ) (j : ℕ) (hj : j < length co) (o : 0 < getD co j 0) {xs′ wc′ ro′ co′ : List ℕ} (i : ℕ) (I
+    : ColInv (length ro) (length co) xs wc ro (set co j 0) j xs′ wc′ ro′ co′ i) where
   pub col-less : total ro′ + total co′ < total ro + total co
   col-less = omega (arith, I .0 .shut .less, total-set co j 0 hj)
 
-  pub col-hit : {xs″ wc″ ro″ co″ : List ℕ} (r : Bool) → i < length ro → i * length co + j < length xs″ → at (length co) xs′ i j ≡ 2 → 0 < getD ro′ i 0 → RowVisited (length ro′) (length co′) xs′ wc′ ro′ co′ xs″ wc″ ro″ co″ i r → r ≡ true → ColVisited (length ro) (length co) xs wc ro co (set xs″ (i * length co + j) 1) wc″ ro″ co″ j true
+  pub col-hit : {xs″ wc″ ro″ co″ : List ℕ} (r : Bool) → i < length ro → i * length co + j < length xs″ → at (length co) xs′ i j ≡ 2 → 0 < getD ro′ i 0
+      → RowVisited (length ro′) (length co′) xs′ wc′ ro′ co′ xs″ wc″ ro″ co″ i r → r ≡ true
+      → ColVisited (length ro) (length co) xs wc ro co (set xs″ (i * length co + j) 1) wc″ ro″ co″ j true
   col-hit r hi hp e o′ v y = record {
     found = λ _. col-turn i j hi hj hp hj (rw (I .0 .same) at e) o o′ (I .0 .shut) (rw (I .0 .same, I .0 .wants, I .0 .tall, I .0 .long) at (v .found y));
     none = true-false true refl;
@@ -106,7 +115,8 @@ module _ {xs wc ro : List ℕ} (co : List ℕ) (j : ℕ) (hj : j < length co) (o
       record { found = λ e. true-false false e refl; none = λ _. (I .0 .same, I .0 .wants, s .0, s .1) }
 
 -- ---- row i takes a column at once
-pub row-now : {xs wc ro co : List ℕ} (i f : ℕ) → Shape xs wc ro co → i < length ro → 0 < getD ro i 0 → Free (length co) xs wc co i f → f < length co → (ro′ : List ℕ) → RowVisited (length ro) (length co) xs wc ro co (set xs (i * length co + f) 2) (set wc f (getD wc f 0 - 1)) ro′ co i true
+pub row-now : {xs wc ro co : List ℕ} (i f : ℕ) → Shape xs wc ro co → i < length ro → 0 < getD ro i 0 → Free (length co) xs wc co i f → f < length co
+    → (ro′ : List ℕ) → RowVisited (length ro) (length co) xs wc ro co (set xs (i * length co + f) 2) (set wc f (getD wc f 0 - 1)) ro′ co i true
 row-now {xs} {wc} {ro} {co} i f S hi o F h ro′ =
     let g = F .found h in
     let p : i * length co + f < length xs = rw (S .cells) (below hi h) in record {

@@ -1,5 +1,6 @@
 -- The search: what a visit of a row, or of a column, has done where it found a column that wants a mark, and where it found none.
--- xs holds the cells' states; ro and co hold, of each row and column, a number above 0 while it is open, and 0 once it was visited. wc holds the marks that each column still wants.
+-- xs holds the cells' states; ro and co hold, of each row and column, a number above 0 while it is open, and 0 once it was visited.
+-- wc holds the marks that each column still wants.
 use mathlib.Core.Path.{_≡_, refl, sym, ap, _∙_}
 use mathlib.Core.Bool.{Bool, true, false}
 use mathlib.Core.List.{List}
@@ -77,7 +78,8 @@ set-zero l i b h e = go (ℕ-discrete b i)
     go (no f) = rw (getD-set-other l i b 0 0 f) e
 
 -- the last of a row's columns, and of a column's rows, is done
-pub row-end : {m n : ℕ} {xs wc ro co ro′ co′ : List ℕ} (i : ℕ) → i < length ro → Shut m n xs wc (set ro i 0) co ro′ co′ → ((x : ℕ) → x < n → at n xs i x ≡ 1 → getD co′ x 0 ≡ 0) → Shut m n xs wc ro co ro′ co′ × (getD ro′ i 0 ≡ 0)
+pub row-end : {m n : ℕ} {xs wc ro co ro′ co′ : List ℕ} (i : ℕ) → i < length ro → Shut m n xs wc (set ro i 0) co ro′ co′
+    → ((x : ℕ) → x < n → at n xs i x ≡ 1 → getD co′ x 0 ≡ 0) → Shut m n xs wc ro co ro′ co′ × (getD ro′ i 0 ≡ 0)
 row-end {m} {n} {xs} {wc} {ro} {co} {ro′} {co′} i hi a h = (
   record {
     rows = λ b e. a .rows b (set-zero ro i b hi e);
@@ -94,7 +96,8 @@ row-end {m} {n} {xs} {wc} {ro} {co} {ro′} {co′} i hi a h = (
     go b x hb hx o z e (yes q) = h x hx (rw q at e)
     go b x hb hx o z e (no f) = a .row b x hb hx (rw (getD-set-other ro i b 0 0 f) o) z e
 
-pub col-end : {m n : ℕ} {xs wc ro co ro′ co′ : List ℕ} (j : ℕ) → j < length co → Shut m n xs wc ro (set co j 0) ro′ co′ → ((b : ℕ) → b < m → at n xs b j ≡ 2 → getD ro′ b 0 ≡ 0) → getD wc j 0 ≡ 0 → Shut m n xs wc ro co ro′ co′ × (getD co′ j 0 ≡ 0)
+pub col-end : {m n : ℕ} {xs wc ro co ro′ co′ : List ℕ} (j : ℕ) → j < length co → Shut m n xs wc ro (set co j 0) ro′ co′
+    → ((b : ℕ) → b < m → at n xs b j ≡ 2 → getD ro′ b 0 ≡ 0) → getD wc j 0 ≡ 0 → Shut m n xs wc ro co ro′ co′ × (getD co′ j 0 ≡ 0)
 col-end {m} {n} {xs} {wc} {ro} {co} {ro′} {co′} j hj a h w = (
   record {
     rows = a .rows;
@@ -120,7 +123,8 @@ open-other : (l : List ℕ) (b i : ℕ) → 0 < getD l i 0 → getD l b 0 ≡ 0 
 open-other l b i o e q = let s : getD l i 0 ≡ 0 = rw q at e in omega arith
 
 -- row i takes the column j, which wants a mark
-pub row-take : {m n : ℕ} {xs wc ro co : List ℕ} (i j : ℕ) → i < m → j < n → i * n + j < length xs → j < length wc → at n xs i j ≡ 1 → 0 < getD wc j 0 → 0 < getD ro i 0 → 0 < getD co j 0 → Moved m n xs wc ro co (set xs (i * n + j) 2) (set wc j (getD wc j 0 - 1)) (λ b. one b i) (λ x. 0)
+pub row-take : {m n : ℕ} {xs wc ro co : List ℕ} (i j : ℕ) → i < m → j < n → i * n + j < length xs → j < length wc → at n xs i j ≡ 1 → 0 < getD wc j 0
+    → 0 < getD ro i 0 → 0 < getD co j 0 → Moved m n xs wc ro co (set xs (i * n + j) 2) (set wc j (getD wc j 0 - 1)) (λ b. one b i) (λ x. 0)
 row-take {m} {n} {xs} {wc} {ro} {co} i j hi hj hp hw e w o o′ =
     let s = mark {m = m} {n = n} xs i j hi hj hp e in record {
       rows = s .rows;
@@ -131,7 +135,8 @@ row-take {m} {n} {xs} {wc} {ro} {co} i j hi hj hp hw e w o o′ =
       kept-col = λ b x h z. s .other b x h (λ p q. open-other co x j o′ z q);
     }
   where
-    go : (x : ℕ) → col m n (set xs (i * n + j) 2) x ≡ col m n xs x + one x j → Dec (x ≡ j) → col m n (set xs (i * n + j) 2) x + getD (set wc j (getD wc j 0 - 1)) x 0 + 0 ≡ col m n xs x + getD wc x 0
+    go : (x : ℕ) → col m n (set xs (i * n + j) 2) x ≡ col m n xs x + one x j → Dec (x ≡ j)
+        → col m n (set xs (i * n + j) 2) x + getD (set wc j (getD wc j 0 - 1)) x 0 + 0 ≡ col m n xs x + getD wc x 0
     go x t (yes q) =
         let u : getD (set wc j (getD wc j 0 - 1)) x 0 ≡ getD wc j 0 - 1 = rw q (getD-set-same wc j (getD wc j 0 - 1) 0 hw) in
         let v : getD wc x 0 ≡ getD wc j 0 = ap (λ (k : ℕ). getD wc k 0) q in omega (arith, one-same x j q)
@@ -142,7 +147,9 @@ row-take {m} {n} {xs} {wc} {ro} {co} i j hi hj hp hw e w o o′ =
     less x (no f) = rw (getD-set-other wc j x (getD wc j 0 - 1) 0 f) (omega arith)
 
 -- row i takes the column j, whose visit found a mark to give up
-pub row-turn : {m n : ℕ} {xs wc ro co ro′ co′ ys wd : List ℕ} (i j : ℕ) → i < m → j < n → i * n + j < length ys → i < length ro → at n xs i j ≡ 1 → 0 < getD ro i 0 → 0 < getD co′ j 0 → Shut m n xs wc (set ro i 0) co ro′ co′ → Moved m n xs wc ro′ co′ ys wd (λ b. 0) (λ x. one x j) → Moved m n xs wc ro co (set ys (i * n + j) 2) wd (λ b. one b i) (λ x. 0)
+pub row-turn : {m n : ℕ} {xs wc ro co ro′ co′ ys wd : List ℕ} (i j : ℕ) → i < m → j < n → i * n + j < length ys → i < length ro → at n xs i j ≡ 1
+    → 0 < getD ro i 0 → 0 < getD co′ j 0 → Shut m n xs wc (set ro i 0) co ro′ co′ → Moved m n xs wc ro′ co′ ys wd (λ b. 0) (λ x. one x j)
+    → Moved m n xs wc ro co (set ys (i * n + j) 2) wd (λ b. one b i) (λ x. 0)
 row-turn {m} {n} {xs} {wc} {ro} {co} {ro′} {co′} {ys} {wd} i j hi hj hp hr e o o′ a v =
     let e′ : at n ys i j ≡ 1 = v .kept-row i j hj (a .rows i (getD-set-same ro i 0 0 hr)) ∙ e in
     let s = mark {m = m} {n = n} ys i j hi hj hp e′ in record {
@@ -155,7 +162,9 @@ row-turn {m} {n} {xs} {wc} {ro} {co} {ro′} {co′} {ys} {wd} i j hi hj hp hr e
     }
 
 -- column j gives up the mark of the row b, whose visit found another
-pub col-turn : {m n : ℕ} {xs wc ro co ro′ co′ ys wd : List ℕ} (i j : ℕ) → i < m → j < n → i * n + j < length ys → j < length co → at n xs i j ≡ 2 → 0 < getD co j 0 → 0 < getD ro′ i 0 → Shut m n xs wc ro (set co j 0) ro′ co′ → Moved m n xs wc ro′ co′ ys wd (λ b. one b i) (λ x. 0) → Moved m n xs wc ro co (set ys (i * n + j) 1) wd (λ b. 0) (λ x. one x j)
+pub col-turn : {m n : ℕ} {xs wc ro co ro′ co′ ys wd : List ℕ} (i j : ℕ) → i < m → j < n → i * n + j < length ys → j < length co → at n xs i j ≡ 2
+    → 0 < getD co j 0 → 0 < getD ro′ i 0 → Shut m n xs wc ro (set co j 0) ro′ co′ → Moved m n xs wc ro′ co′ ys wd (λ b. one b i) (λ x. 0)
+    → Moved m n xs wc ro co (set ys (i * n + j) 1) wd (λ b. 0) (λ x. one x j)
 col-turn {m} {n} {xs} {wc} {ro} {co} {ro′} {co′} {ys} {wd} i j hi hj hp hc e o o′ a v =
     let e′ : at n ys i j ≡ 2 = v .kept-col i j hj (a .cols j (getD-set-same co j 0 0 hc)) ∙ e in
     let s = unmark {m = m} {n = n} ys i j hi hj hp e′ in record {

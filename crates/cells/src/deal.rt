@@ -51,7 +51,8 @@ fn level(counts: &[u64], k: u64) -> u64
 // Marks the broken cells of row i whose columns want at least `least`, until the row lacks none.
 fn take(marks: &mut [u64], lacks: &mut [u64], wants: &mut [u64], i: usize, least: u64)
     requires { ⌜ Grid (now marks) (now lacks) (now wants) × (i < length (now lacks)) × (0 < least) ⌝ }
-    ensures { λ r. ⌜ Kept (length (now (lacks .entry))) (length (now (wants .entry))) (now (marks .entry)) (now (lacks .entry)) (now (wants .entry)) (now (marks .exit)) (now (lacks .exit)) (now (wants .exit)) ⌝ }
+    ensures { λ r. ⌜ Kept (length (now (lacks .entry))) (length (now (wants .entry))) (now (marks .entry)) (now (lacks .entry)) (now (wants .entry))
+        (now (marks .exit)) (now (lacks .exit)) (now (wants .exit)) ⌝ }
 {
     let m = lacks.len();
     let n = wants.len();
@@ -74,7 +75,8 @@ fn take(marks: &mut [u64], lacks: &mut [u64], wants: &mut [u64], i: usize, least
 // Deals row i the marks that it lacks, to the columns that want most.
 fn deal_row(marks: &mut [u64], lacks: &mut [u64], wants: &mut [u64], counts: &mut [u64], i: usize)
     requires { ⌜ Grid (now marks) (now lacks) (now wants) × (i < length (now lacks)) ⌝ }
-    ensures { λ r. ⌜ Kept (length (now (lacks .entry))) (length (now (wants .entry))) (now (marks .entry)) (now (lacks .entry)) (now (wants .entry)) (now (marks .exit)) (now (lacks .exit)) (now (wants .exit)) ⌝ }
+    ensures { λ r. ⌜ Kept (length (now (lacks .entry))) (length (now (wants .entry))) (now (marks .entry)) (now (lacks .entry)) (now (wants .entry))
+        (now (marks .exit)) (now (lacks .exit)) (now (wants .exit)) ⌝ }
 {
     clear(counts);
     count_wants(marks, wants, i, counts);
@@ -86,7 +88,8 @@ fn deal_row(marks: &mut [u64], lacks: &mut [u64], wants: &mut [u64], counts: &mu
 // Deals every row's marks.
 pub fn deal(marks: &mut [u64], lacks: &mut [u64], wants: &mut [u64], counts: &mut [u64])
     requires { ⌜ Grid (now marks) (now lacks) (now wants) ⌝ }
-    ensures { λ r. ⌜ Kept (length (now (lacks .entry))) (length (now (wants .entry))) (now (marks .entry)) (now (lacks .entry)) (now (wants .entry)) (now (marks .exit)) (now (lacks .exit)) (now (wants .exit)) ⌝ }
+    ensures { λ r. ⌜ Kept (length (now (lacks .entry))) (length (now (wants .entry))) (now (marks .entry)) (now (lacks .entry)) (now (wants .entry))
+        (now (marks .exit)) (now (lacks .exit)) (now (wants .exit)) ⌝ }
 {
     let m = lacks.len();
     let n = wants.len();

@@ -53,7 +53,8 @@ fn floor_row(
     base: usize,
 ) -> u64
     requires { ⌜ RowAsks v (now debits) w (now cells) (now marks) (now wants) (now lefts) base ⌝ }
-    ensures { λ r. ⌜ RowFloors v (now (debits .entry)) w (now (cells .entry)) (now (marks .entry)) (now (wants .entry)) (now (lefts .entry)) base (now (cells .exit)) (now (marks .exit)) (now (wants .exit)) (now (lefts .exit)) (length (now (debits .entry))) r ⌝ }
+    ensures { λ r. ⌜ RowFloors v (now (debits .entry)) w (now (cells .entry)) (now (marks .entry)) (now (wants .entry)) (now (lefts .entry)) base
+        (now (cells .exit)) (now (marks .exit)) (now (wants .exit)) (now (lefts .exit)) (length (now (debits .entry))) r ⌝ }
 {
     let n = debits.len();
     let k = share::weights::rate_of(share::size(v), w);

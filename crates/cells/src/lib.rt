@@ -61,7 +61,8 @@ fn lay(
 // Writes the table of the payees' credits vc and the users' debits vd, payee by payee, users in order. Which broken cells take the
 // odd cents is free within paper 01, and so is what the work slice holds afterwards.
 pub fn fill(vc: &[i64], vd: &[i64], cells: &mut [i64], work: &mut [u64])
-    requires { ⌜ Fillable (now vc) (now vd) × (length (now cells) ≡ length (now vc) * length (now vd)) × (length (now vc) * length (now vd) ≤ length (now work)) ⌝ }
+    requires { ⌜ Fillable (now vc) (now vd) × (length (now cells) ≡ length (now vc) * length (now vd))
+        × (length (now vc) * length (now vd) ≤ length (now work)) ⌝ }
     ensures { λ r. ⌜ Table (now (vc .entry)) (now (vd .entry)) (now (cells .exit)) ⌝ }
 {
     let m = vc.len();

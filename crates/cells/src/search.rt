@@ -40,7 +40,8 @@ pub fn visit_row(
     i: usize,
 ) -> bool
     requires { ⌜ Shape (now marks) (now wants) (now rows) (now columns) × (i < length (now rows)) × (0 < getD (now rows) i 0) ⌝ }
-    ensures { λ r. ⌜ RowVisited (length (now (rows .entry))) (length (now (columns .entry))) (now (marks .entry)) (now (wants .entry)) (now (rows .entry)) (now (columns .entry)) (now (marks .exit)) (now (wants .exit)) (now (rows .exit)) (now (columns .exit)) i r ⌝ }
+    ensures { λ r. ⌜ RowVisited (length (now (rows .entry))) (length (now (columns .entry))) (now (marks .entry)) (now (wants .entry)) (now (rows .entry))
+        (now (columns .entry)) (now (marks .exit)) (now (wants .exit)) (now (rows .exit)) (now (columns .exit)) i r ⌝ }
 {
     let m = rows.len();
     let n = columns.len();
@@ -75,8 +76,10 @@ pub fn visit_column(
     columns: &mut [u64],
     j: usize,
 ) -> bool
-    requires { ⌜ Shape (now marks) (now wants) (now rows) (now columns) × (j < length (now columns)) × (0 < getD (now columns) j 0) × (getD (now wants) j 0 ≡ 0) ⌝ }
-    ensures { λ r. ⌜ ColVisited (length (now (rows .entry))) (length (now (columns .entry))) (now (marks .entry)) (now (wants .entry)) (now (rows .entry)) (now (columns .entry)) (now (marks .exit)) (now (wants .exit)) (now (rows .exit)) (now (columns .exit)) j r ⌝ }
+    requires { ⌜ Shape (now marks) (now wants) (now rows) (now columns) × (j < length (now columns)) × (0 < getD (now columns) j 0)
+        × (getD (now wants) j 0 ≡ 0) ⌝ }
+    ensures { λ r. ⌜ ColVisited (length (now (rows .entry))) (length (now (columns .entry))) (now (marks .entry)) (now (wants .entry)) (now (rows .entry))
+        (now (columns .entry)) (now (marks .exit)) (now (wants .exit)) (now (rows .exit)) (now (columns .exit)) j r ⌝ }
 {
     let m = rows.len();
     let n = columns.len();
@@ -117,7 +120,8 @@ pub fn place(
     columns: &mut [u64],
 )
     requires { ⌜ Wanted (now marks) (now lacks) (now wants) (now rows) (now columns) ⌝ }
-    ensures { λ r. ⌜ Placed (length (now (rows .entry))) (length (now (columns .entry))) (now (marks .entry)) (now (lacks .entry)) (now (wants .entry)) (now (marks .exit)) ⌝ }
+    ensures { λ r. ⌜ Placed (length (now (rows .entry))) (length (now (columns .entry))) (now (marks .entry)) (now (lacks .entry)) (now (wants .entry))
+        (now (marks .exit)) ⌝ }
 {
     let m = rows.len();
     let n = columns.len();

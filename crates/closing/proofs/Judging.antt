@@ -54,13 +54,15 @@ module _ {g : Ledger} {held : List ℤ} {l : Lines} {s : Sums} {first : Answer} 
   sums-last told =
       rw (told, b .verdict)
       (then-assoc (countTests st short (length (l .users)) (length (l .agents)) (length (l .points))) (stateTests st (l .line) then lineTests l) (sumTests st l)
-      ∙ ap (λ (v : Verdict). countTests st short (length (l .users)) (length (l .agents)) (length (l .points)) then v) (then-assoc (stateTests st (l .line)) (lineTests l) (sumTests st l)))
+      ∙ ap (λ (v : Verdict). countTests st short (length (l .users)) (length (l .agents)) (length (l .points))
+      then v) (then-assoc (stateTests st (l .line)) (lineTests l) (sumTests st l)))
 
 -- a refusal has no amounts
 pub refuses : {n : ℕ} {st : State} {l : Lines} {r : Judged} (v : Verdict) {k p : ℕ} → r .verdict ≡ Refused k p → refused k p ≡ v → JudgesBy v n st l r
 refuses v e told = record { verdict = ap verdictOf e ∙ told; bills = λ ok. absurd (refused-not-accepted (told ∙ ok)) }
 
-module _ {g : Ledger} {held : List ℤ} {line : MonthLine} (agents users : List (List ℤ)) {points : List Point} {s : Sums} {first : Answer} {short : Verdict} (b : Begun g held (monthLines line agents users points) s first short) where
+module _ {g : Ledger} {held : List ℤ} {line : MonthLine} (agents users : List (List ℤ)) {points : List Point} {s : Sums} {first : Answer} {short : Verdict} (b
+    : Begun g held (monthLines line agents users points) s first short) where
   abbrev l : Lines
   l = monthLines line agents users points
 

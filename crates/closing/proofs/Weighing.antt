@@ -31,7 +31,8 @@ use Rattle.closing.specs.Judged.{Weighable}
 abbrev pub weights : List (List ℤ) → List (List ℤ) → Sums → Verdict
 weights agents users s = weightTests (sumℤ (pbs (map agentOf agents))) (sumℤ (pvs (map agentOf agents))) (sumℤ (firstUses users s))
 
-module _ {line : MonthLine} {held : List ℤ} {agents users : List (List ℤ)} {s : Sums} {st : State} {points : List Point} (t : Weighable line held agents users s st points) where
+module _ {line : MonthLine} {held : List ℤ} {agents users : List (List ℤ)} {s : Sums} {st : State} {points : List Point} (t
+    : Weighable line held agents users s st points) where
   abbrev l : Lines
   l = monthLines line agents users points
 

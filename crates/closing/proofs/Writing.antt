@@ -42,7 +42,8 @@ fillable-passed s l w p =
       equal = t .credits-are-debits;
     }
 
-module _ {bills : Bills} {line : MonthLine} {agents : List (List ℤ)} {held cells : List ℤ} {work : List ℕ} {st : State} {short : Verdict} {l : Lines} (w : Writable bills line agents held cells work st short l) where
+module _ {bills : Bills} {line : MonthLine} {agents : List (List ℤ)} {held cells : List ℤ} {work : List ℕ} {st : State} {short : Verdict} {l : Lines} (w
+    : Writable bills line agents held cells work st short l) where
   p : Passed st l
   p = passed st short l (w .accepts)
 

@@ -16,7 +16,8 @@ use Rattle.charges.specs.declared.month.Bills.{Bills}
 use Rattle.charges.specs.Month.{Billed}
 
 -- nothing refuses the lines l on the state st, whose credits are one for each user; the bills are theirs, and every slice has the room
-pub record Writable (bills : Bills) (line : MonthLine) (agents : List (List ℤ)) (held cells : List ℤ) (work : List ℕ) (st : State) (short : Verdict) (l : Lines) : Type 0 where
+pub record Writable (bills : Bills) (line : MonthLine) (agents : List (List ℤ)) (held cells : List ℤ) (work : List ℕ) (st : State) (short : Verdict) (l : Lines)
+    : Type 0 where
   pub accepts : refusal st short l ≡ accepted
   pub one-each : length (st .credits) ≡ st .users
   pub line-is : line ≡ l .line

@@ -52,7 +52,8 @@ module _ {agents : List Agent} (l : AgentLines agents) where
   module _ (line : MonthLine) (p : impossibleMonth (line .month) ≡ false) where
     own-words : Words 400000000000 400000000000 (ownCredits line agents)
     unfolding ownCredits ownCredit
-    own-words = column (ownCredit (line .month)) agents (λ i h. agent-bounds (cycleMonth (line .month)) (cycle-within (line .month) (possible (line .month) p)) (l .line i h) .own)
+    own-words = column (ownCredit (line .month)) agents (λ i h. agent-bounds (cycleMonth (line .month)) (cycle-within (line .month) (possible (line .month) p))
+        (l .line i h) .own)
 
     pub own-small : Small 400000000000 (ownCredits line agents)
     own-small = small-of 400000000000 own-words tt tt

@@ -122,7 +122,8 @@ word-total K n xs w l t = subst (Word (K * n) (K * n)) (sum-end xs (length xs) r
 pub word-sum : (K n : ℕ) (xs : List ℤ) → Words 0 K xs → length xs ≤ n → T (ltb (0 + K * n) (2 ^ 63)) → Word 0 (K * n) (sumℤ xs)
 word-sum K n xs w l t =
     let s : Small K xs = record { small = λ i h. at-most (w .at i h) } in
-    let h : abs (sumℤ xs) ≤ K * n = subst (λ (z : ℤ). abs z ≤ K * n) (sum-end xs (length xs) refl) (le-trans (sum-any K xs (length xs) s) (mul-le-mul-left K l)) in
+    let h : abs (sumℤ xs) ≤ K * n = subst (λ (z : ℤ). abs z ≤ K * n) (sum-end xs (length xs) refl)
+    (le-trans (sum-any K xs (length xs) s) (mul-le-mul-left K l)) in
     word (omega (za, sum-nonneg xs (words-nonneg w))) (omega arith) t
   where
     at-most : {x : ℤ} → Word 0 K x → abs x ≤ K

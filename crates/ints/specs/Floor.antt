@@ -65,7 +65,16 @@ pub floor-add-high : {x y : ℤ} {w : ℕ} {q r s : ℤ} → IsFloor x w q → I
 floor-add-high {x} {y} {w} {q} {r} {s} f g k = ⊎-elim (λ p. p) (λ p. absurd (clash p)) (le-or-lt s (q +ℤ r +ℤ pos 1))
   where
     clash : (q +ℤ r +ℤ pos 1) <ℤ s → ⊥
-    clash p = omega (za, floor-in f, floor-in g, floor-in k, add# x y, ap (λ (t : ℕ). t * w) (add# q r .sum), ap (λ (t : ℕ). t * w) (add# (q +ℤ r) (pos 1) .sum), mul-le-mul-right w (lt-in p))
+    clash p = omega (
+      za,
+      floor-in f,
+      floor-in g,
+      floor-in k,
+      add# x y,
+      ap (λ (t : ℕ). t * w) (add# q r .sum),
+      ap (λ (t : ℕ). t * w) (add# (q +ℤ r) (pos 1) .sum),
+      mul-le-mul-right w (lt-in p),
+    )
 
 -- ---- multiples
 pub floor-multiple : (k : ℤ) (w : ℕ) → 0 < w → IsFloor (k *ℤ pos w) w k

@@ -47,7 +47,8 @@ mul-dif p q r s u v a b c d e f g h = omega (arith, ap (λ (t : ℕ). t * r) e, 
 pub ⊖-mul : (a b c d : ℕ) → (a ⊖ b) *ℤ (c ⊖ d) ≡ (a * c + b * d) ⊖ (a * d + b * c)
 ⊖-mul a b c d =
     let m = mul# (a ⊖ b) (c ⊖ d) in
-    let e = mul-dif (up (a ⊖ b)) (dn (a ⊖ b)) (up (c ⊖ d)) (dn (c ⊖ d)) (up ((a ⊖ b) *ℤ (c ⊖ d))) (dn ((a ⊖ b) *ℤ (c ⊖ d))) a b c d (dif# a b .sum) (dif# c d .sum) (m .hi) (m .lo) in
+    let e = mul-dif (up (a ⊖ b)) (dn (a ⊖ b)) (up (c ⊖ d)) (dn (c ⊖ d)) (up ((a ⊖ b) *ℤ (c ⊖ d))) (dn ((a ⊖ b) *ℤ (c ⊖ d))) a b c d (dif# a b .sum)
+    (dif# c d .sum) (m .hi) (m .lo) in
     omega (za, dif# (a * c + b * d) (a * d + b * c))
 
 -- what an identity or an order of differences comes to

@@ -65,7 +65,12 @@ unfolding sumℤ
 sum-take-small K [] zero h k = omega arith
 sum-take-small K [] (suc i) h k = absurd (not-suc-le-zero k)
 sum-take-small K (x ∷ xs) zero h k = omega arith
-sum-take-small K (x ∷ xs) (suc i) h k = omega (arith, h .small 0 (suc-le-suc zero-le), sum-take-small K xs i (small-tail h) (le-of-suc-le-suc k), add# x (sumℤ (take i xs)))
+sum-take-small K (x ∷ xs) (suc i) h k = omega (
+  arith,
+  h .small 0 (suc-le-suc zero-le),
+  sum-take-small K xs i (small-tail h) (le-of-suc-le-suc k),
+  add# x (sumℤ (take i xs)),
+)
 
 -- a loop's turn over such a list: the element is a word, and so is the sum with it
 pub small-fits : (K : ℕ) (xs : List ℤ) (i : ℕ) → K < 2 ^ 63 → i < length xs → Small K xs → SFits w64 (getD xs i (pos 0))
@@ -167,7 +172,8 @@ unfolding Σ<
 pub Σ-list : (xs : List ℤ) (n : ℕ) → n ≤ length xs → Σ< n (λ k. getD xs k (pos 0)) ≡ sumℤ (take n xs)
 unfolding Σ<
 Σ-list xs zero h = sym (sum-start xs)
-Σ-list xs (suc n) h = ap (λ (t : ℤ). t +ℤ getD xs n (pos 0)) (Σ-list xs n (omega arith)) ∙ sym (sum-more xs n (pos 0) h) ∙ ap (λ (k : ℕ). sumℤ (take k xs)) (add-one n)
+Σ-list xs (suc n) h = ap (λ (t : ℤ). t +ℤ getD xs n (pos 0)) (Σ-list xs n (omega arith)) ∙ sym (sum-more xs n (pos 0) h)
+    ∙ ap (λ (k : ℕ). sumℤ (take k xs)) (add-one n)
 
 -- the sum of naturals
 pub Σ-pos : (n : ℕ) (f : ℕ → ℕ) → Σ< n (λ k. pos (f k)) ≡ pos (Σ n f)

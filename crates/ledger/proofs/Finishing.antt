@@ -30,7 +30,8 @@ shortOf g held cells work = shortSlices (stateOf g held) (lengthsOf held cells w
 
 -- with 1 and 2 tested and the points scanned, the closing may be judged
 pub begun :
-    (g : Ledger) (held cells : List ℤ) (work : List ℕ) (line : MonthLine) (agents users : List (List ℤ)) {points : List Point} {count : ℕ} {s : Sums} {first : Answer}
+    (g : Ledger) (held cells : List ℤ) (work : List ℕ) (line : MonthLine) (agents users : List (List ℤ)) {points : List Point} {count : ℕ} {s : Sums} {first
+    : Answer}
     → ScanFinds users count s points
     → verdictOf first ≡ countTests (stateOf g held) (shortOf g held cells work) (length users) (length agents) count
     → Begun g held (monthLines line agents users points) s first (shortOf g held cells work)
@@ -41,10 +42,12 @@ begun g held cells work line agents users f told = record {
 }
 
 -- what was found of this closing
-pub record Found (g : Ledger) (held cells : List ℤ) (work : List ℕ) (line : MonthLine) (agents users : List (List ℤ)) (points : List Point) (r : Judged) : Type 0 where
+pub record Found (g : Ledger) (held cells : List ℤ) (work : List ℕ) (line : MonthLine) (agents users : List (List ℤ)) (points : List Point) (r : Judged)
+    : Type 0 where
   pub judged : Judges g held (shortOf g held cells work) (monthLines line agents users points) r
 
-module _ {g : Ledger} {held cells : List ℤ} {work : List ℕ} {line : MonthLine} {agents users : List (List ℤ)} {points : List Point} {r : Judged} (f : Found g held cells work line agents users points r) where
+module _ {g : Ledger} {held cells : List ℤ} {work : List ℕ} {line : MonthLine} {agents users : List (List ℤ)} {points : List Point} {r : Judged} (f
+    : Found g held cells work line agents users points r) where
   abbrev l : Lines
   l = monthLines line agents users points
 
@@ -75,7 +78,8 @@ module _ {g : Ledger} {held cells : List ℤ} {work : List ℕ} {line : MonthLin
     pub cells-small : (length agents + 1) * length users ≤ 257 * 512
     cells-small = cells-few g held cells work line agents users points passed
 
-    pub may-write : Writable (r .bills) line agents (take (length users) held) (take ((length agents + 1) * length users) cells) work (stateOf g held) (shortOf g held cells work) l
+    pub may-write : Writable (r .bills) line agents (take (length users) held) (take ((length agents + 1) * length users) cells) work (stateOf g held)
+        (shortOf g held cells work) l
     may-write = writable g held cells work line agents users points passed (r .bills) (rw (length-map users userOf) at (f .judged .bills passed))
 
     pub accepted-closes :

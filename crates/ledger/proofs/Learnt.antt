@@ -24,7 +24,8 @@ Ensures T = (κs : Lfts (T .signature .lifetimes)) → Args (T .signature) κs �
 module _ (T : Ended) (ensures : Ensures T) where
   -- the kit's reading of it, for whoever owns nothing and knows nothing besides
   abbrev pub Reading : Type 2
-  Reading = (κs : Lfts (T .signature .lifetimes)) (a : Args (T .signature) κs) (r : Res (T .signature) κs) (e : AtExit T κs) → Read (λ w. emp (w .𝓤)) no-know (ensures κs a r e)
+  Reading = (κs : Lfts (T .signature .lifetimes)) (a : Args (T .signature) κs) (r : Res (T .signature) κs) (e : AtExit T κs)
+      → Read (λ w. emp (w .𝓤)) no-know (ensures κs a r e)
 
   abbrev pub LearntBy : Reading → (κs : Lfts (T .signature .lifetimes)) → Args (T .signature) κs → Res (T .signature) κs → AtExit T κs → Type 0
   LearntBy reading κs a r e = AllOf (reading κs a r e .tells)

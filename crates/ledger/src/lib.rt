@@ -81,8 +81,8 @@ fn finish(
     work: &mut [u64],
 ) -> Outcome
     requires { ⌜ ((points : List Point) × ScanFinds (now users) n s points) ⌝ }
-    ensures { λ r. ⌜ Finishes ledger (now (held .entry)) line (now (agents .entry)) (now (users .entry)) n s (now (cells .entry)) (now (work .entry))
-        r (now (held .exit)) (now (cells .exit)) (now (work .exit)) ⌝ }
+    ensures { λ r. ⌜ Finishes ledger (now (held .entry)) line (now (agents .entry)) (now (users .entry)) n s
+        (now (cells .entry)) (now (work .entry)) r (now (held .exit)) (now (cells .exit)) (now (work .exit)) ⌝ }
 {
     let first = refusals::counts::closing_verdict(
         ledger,
@@ -137,8 +137,8 @@ fn close_first(
 ) -> Outcome
     requires { ⌜ ((all : List Point) × FirstOf n all (now points)) ⌝ }
     ensures { λ r. ⌜ ((all : List Point) → FirstOf n all (now (points .entry))
-        → Closes ledger (now (held .entry)) (monthLines line (now (agents .entry)) (now (users .entry)) all) (now (cells .entry)) (now (work .entry))
-        r (now (held .exit)) (now (cells .exit)) (now (work .exit))) ⌝ }
+        → Closes ledger (now (held .entry)) (monthLines line (now (agents .entry)) (now (users .entry)) all)
+        (now (cells .entry)) (now (work .entry)) r (now (held .exit)) (now (cells .exit)) (now (work .exit))) ⌝ }
 {
     let s = charges::scan::scan(points, users);
     finish(ledger, held, line, agents, users, n, s, cells, work)
@@ -155,8 +155,8 @@ pub fn close_lines(
     cells: &mut [i64],
     work: &mut [u64],
 ) -> Outcome
-    ensures { λ r. ⌜ Closes ledger (now (held .entry)) (monthLines line (now (agents .entry)) (now (users .entry)) (map pointOf (now (points .entry)))) (now (cells .entry)) (now (work .entry))
-        r (now (held .exit)) (now (cells .exit)) (now (work .exit)) ⌝ }
+    ensures { λ r. ⌜ Closes ledger (now (held .entry)) (monthLines line (now (agents .entry)) (now (users .entry)) (map pointOf (now (points .entry))))
+        (now (cells .entry)) (now (work .entry)) r (now (held .exit)) (now (cells .exit)) (now (work .exit)) ⌝ }
 {
     let n = points.len();
     let k = records::taken_count(n);
@@ -187,8 +187,8 @@ fn close_taken(
 ) -> Outcome
     requires { ⌜ ((points : List Point) × ((n ≡ length points) × Takes points lines)) ⌝ }
     ensures { λ r. ⌜ ((points : List Point) → (n ≡ length points) → Takes points lines
-        → Closes ledger (now (held .entry)) (monthLines line (now (agents .entry)) (now (users .entry)) points) (now (cells .entry)) (now (work .entry))
-        r (now (held .exit)) (now (cells .exit)) (now (work .exit))) ⌝ }
+        → Closes ledger (now (held .entry)) (monthLines line (now (agents .entry)) (now (users .entry)) points)
+        (now (cells .entry)) (now (work .entry)) r (now (held .exit)) (now (cells .exit)) (now (work .exit))) ⌝ }
 {
     let k = records::taken_count(n);
     close_first(
@@ -215,8 +215,8 @@ pub fn close(
     cells: &mut [i64],
     work: &mut [u64],
 ) -> Outcome
-    ensures { λ r. ⌜ Closes ledger (now (held .entry)) (monthLines line (now (agents .entry)) (now (users .entry)) (now (points .entry))) (now (cells .entry)) (now (work .entry))
-        r (now (held .exit)) (now (cells .exit)) (now (work .exit)) ⌝ }
+    ensures { λ r. ⌜ Closes ledger (now (held .entry)) (monthLines line (now (agents .entry)) (now (users .entry)) (now (points .entry)))
+        (now (cells .entry)) (now (work .entry)) r (now (held .exit)) (now (cells .exit)) (now (work .exit)) ⌝ }
 {
     let n = points.len();
     let lines = records::taken(points);

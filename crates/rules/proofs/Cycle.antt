@@ -113,7 +113,8 @@ VMPA-total a = VMPA-by a 12 ∙ floor-whole (a .pa) (pos 12) (omega za)
 
 pub VMPA-year : (y : ℕ) → 2000 ≤ y → y < 2099 → (a : Agent) → Σ< 12 (λ k. VMPA (cycleMonth (getD (cycleFrom y) k (pos 0))) a) ≡ a .pa
 VMPA-year y low high a =
-    Σ-ext 12 (λ k. VMPA (cycleMonth (getD (cycleFrom y) k (pos 0))) a) (λ k. VMPA (pos (suc k)) a) (λ k h. ap (λ (c : ℤ). VMPA c a) (cycle-months y low high k h))
+    Σ-ext 12 (λ k. VMPA (cycleMonth (getD (cycleFrom y) k (pos 0))) a) (λ k. VMPA (pos (suc k)) a)
+    (λ k h. ap (λ (c : ℤ). VMPA c a) (cycle-months y low high k h))
     ∙ VMPA-total a
 
 -- ---- these months are possible, and every possible month is one of them, and has a cycle month from 1 to 12

@@ -30,7 +30,8 @@ opening users agents held r held′ o e =
     (record {
       tally-users = refl;
       tally-agents = refl;
-      state = ap (λ (x : List ℤ). record { users = users; agents = agents; month = pos 0; credits = x }) (take-at (replicate users (pos 0)) (drop users held) users long);
+      state = ap (λ (x : List ℤ). record { users = users; agents = agents; month = pos 0; credits = x })
+          (take-at (replicate users (pos 0)) (drop users held) users long);
       beyond = drop-at (replicate users (pos 0)) (drop users held) users long;
       width = long;
     })

@@ -17,7 +17,8 @@ use Rattle.rules.specs.Lines.{distributor, consumer, generator, Lines, a
 use Rattle.rules.specs.Charges.{halfUp, orZero, useCharge, allowance, excess, overrun, ofUser, EUSTs, overrunSums, VMEs, pvTotal, CPVs, ns, VDs}
 use Rattle.rules.specs.Credits.{VMST}
 use Rattle.rules.specs.State.{State}
-use Rattle.rules.specs.Refusals.{Lengths, badCounts, shortSlices, badMonth, countTests, stateTests, linesBeforePoints, lineTests, sumTests, refusal, openingRefusal}
+use Rattle.rules.specs.Refusals.{Lengths, badCounts, shortSlices, badMonth, countTests, stateTests}
+use Rattle.rules.specs.Refusals.{linesBeforePoints, lineTests, sumTests, refusal, openingRefusal}
 
 -- ---- small months
 abbrev Row : Type 0
@@ -144,7 +145,9 @@ inOrder =
     ∷ []
 
 pub refusals : map (λ (c : Case). c .0) (bySelf ++ inOrder) ≡ map (λ (c : Case). c .1) (bySelf ++ inOrder)
-unfolding bySelf inOrder refusal openingRefusal badCounts shortSlices badMonth countTests stateTests linesBeforePoints lineTests sumTests eachLine impossibleMonth monthOfYear outside badAgent badUser badPoint unfitPoint kindOf pvTotal EUSTs overrunSums VMEs CPVs ns VDs eachFrom sideBySide ofUser useCharge overrun excess allowance orZero halfUp floor sumℤ runningShare partsFrom part
+unfolding bySelf inOrder refusal openingRefusal badCounts shortSlices badMonth countTests stateTests linesBeforePoints lineTests sumTests eachLine
+    impossibleMonth monthOfYear outside badAgent badUser badPoint unfitPoint kindOf pvTotal EUSTs overrunSums VMEs CPVs ns VDs eachFrom sideBySide ofUser
+    useCharge overrun excess allowance orZero halfUp floor sumℤ runningShare partsFrom part
 refusals = refl
 
 -- ---- amounts that the cases by hand leave out

@@ -20,7 +20,8 @@ use Rattle.rules.specs.Lines.{Lines, agentOf, userOf, pointOf}
 use Rattle.rules.specs.Charges.{pvTotal, EUSTs, VDs}
 use Rattle.rules.specs.Credits.{pbs}
 use Rattle.rules.specs.State.{State}
-use Rattle.rules.specs.Refusals.{Lengths, badCounts, cellsNeeded, workNeeded, shortSlices, badMonth, creditTest, agentTest, userTest, pointTest, countTests, stateTests, linesBeforePoints, lineTests, weightTests, sumTests, refusal}
+use Rattle.rules.specs.Refusals.{Lengths, badCounts, cellsNeeded, workNeeded, shortSlices, badMonth, creditTest, agentTest, userTest}
+use Rattle.rules.specs.Refusals.{pointTest, countTests, stateTests, linesBeforePoints, lineTests, weightTests, sumTests, refusal}
 use Rattle.rules.specs.Tested.{Tested}
 use Rattle.rules.proofs.Tests.{then-accepted, when-accepted, when-then, and-false, each-from-1}
 use Rattle.rules.specs.Ranges.{Amount}

@@ -50,7 +50,8 @@ module _ (users agents : ℕ) (held : List ℤ) where
 
   pub opens-accepted :
       openingRefusal users agents (length held) ≡ accepted
-      → Opens users agents held (record { answer = Accepted; ledger = record { users = users; agents = agents; month = pos 0 } }) (replicate users (pos 0) ++ drop users held)
+      → Opens users agents held (record { answer = Accepted; ledger = record { users = users; agents = agents; month = pos 0 } }) (replicate users (pos 0)
+      ++ drop users held)
   opens-accepted e = by-accepted e (record { outcome = refl; credits = refl })
 
   pub opens-verdict : {r : Outcome} {held′ : List ℤ} → Opens users agents held r held′ → verdictOf (r .answer) ≡ openingRefusal users agents (length held)

@@ -69,7 +69,8 @@ module _ (users agents : ℕ) (s : State) (c : Call) (rest : List ℤ) (a : Agre
         near = by-refused refl tt;
       }
 
-  module _ (e : judged s (fed c) ≡ accepted) (k : Closed (c .ledger) (c .held) (c .lines) (c .cells) (c .work) (c .outcome) (c .heldLeft) (c .cellsLeft) (c .workLeft)) where
+  module _ (e : judged s (fed c) ≡ accepted) (k : Closed (c .ledger) (c .held) (c .lines) (c .cells) (c .work) (c .outcome) (c .heldLeft) (c .cellsLeft)
+      (c .workLeft)) where
     p : Passed s (c .lines)
     p = passed s (shortSlices s (fed c .lengths)) (c .lines) e
 

@@ -15,10 +15,12 @@ use Rattle.rules.specs.Verdict.{accepted, refused, eachLine}
 use Rattle.rules.specs.Lists.{eachFrom, sideBySide}
 use Rattle.rules.specs.Calendar.{monthOfYear, impossibleMonth, cycleMonth}
 use Rattle.rules.specs.Lines.{Lines, agentOf, userOf, pointOf, kindOf, badAgent, badUser, badPoint, unfitPoint}
-use Rattle.rules.specs.Charges.{halfUp, orZero, useCharge, allowance, excess, overrun, ofUser, EUSTs, overrunSums, VMEs, pvTotal, CPVs, ns, VDs, newCredits}
+use Rattle.rules.specs.Charges.{halfUp, orZero, useCharge, allowance, excess, overrun, ofUser, EUSTs}
+use Rattle.rules.specs.Charges.{overrunSums, VMEs, pvTotal, CPVs, ns, VDs, newCredits}
 use Rattle.rules.specs.Credits.{VMPA, VMST, ownCredit, ownCredits, SMSEFrom, VMANTsFrom, agentVCsFrom, VCsFrom, VCs}
 use Rattle.rules.specs.Table.{Cell, rounded-down, cellAt, Table}
-use Rattle.rules.specs.Refusals.{badCounts, shortSlices, badMonth, countTests, stateTests, linesBeforePoints, lineTests, sumTests, refusal, openingRefusal}
+use Rattle.rules.specs.Refusals.{badCounts, shortSlices, badMonth, countTests, stateTests, linesBeforePoints}
+use Rattle.rules.specs.Refusals.{lineTests, sumTests, refusal, openingRefusal}
 use Rattle.rules.specs.Calls.{Opens, stateOf, closingRefusal, Closes}
 use Rattle.rules.specs.Demand.{Call, Chain, AllPromised, Demand3}
 use Rattle.rules.proofs.Promise.{opens-accepted, closes-accepted, closes-refused}
@@ -66,7 +68,9 @@ abbrev work : List ℕ
 work = replicate 32 0
 
 first : closingRefusal new held cells work july ≡ accepted
-unfolding refusal badCounts shortSlices badMonth countTests stateTests linesBeforePoints lineTests sumTests eachLine badAgent badUser badPoint unfitPoint outside impossibleMonth monthOfYear floor eachFrom sideBySide sumℤ halfUp orZero useCharge allowance excess overrun ofUser EUSTs overrunSums VMEs pvTotal CPVs ns VDs part partsFrom runningShare kindOf
+unfolding refusal badCounts shortSlices badMonth countTests stateTests linesBeforePoints lineTests sumTests eachLine badAgent badUser badPoint unfitPoint
+    outside impossibleMonth monthOfYear floor eachFrom sideBySide sumℤ halfUp orZero useCharge allowance excess overrun ofUser EUSTs overrunSums VMEs pvTotal
+    CPVs ns VDs part partsFrom runningShare kindOf
 first = refl
 
 again : closingRefusal closed held cells′ work july ≡ refused 3 0
@@ -75,15 +79,18 @@ again = refl
 
 -- its credits and debits, and a table of them: here every exact value is whole
 credits-are : pos 635 ∷ pos 1235 ∷ pos 100 ∷ [] ≡ VCs (stateOf new held) july
-unfolding VCsFrom agentVCsFrom VMANTsFrom SMSEFrom ownCredits ownCredit VMST VMPA cycleMonth monthOfYear floor eachFrom sideBySide sumℤ halfUp orZero useCharge allowance excess overrun ofUser EUSTs overrunSums VMEs pvTotal CPVs ns VDs part partsFrom runningShare
+unfolding VCsFrom agentVCsFrom VMANTsFrom SMSEFrom ownCredits ownCredit VMST VMPA cycleMonth monthOfYear floor eachFrom sideBySide sumℤ halfUp orZero useCharge
+    allowance excess overrun ofUser EUSTs overrunSums VMEs pvTotal CPVs ns VDs part partsFrom runningShare
 credits-are = refl
 
 debits-are : pos 394 ∷ pos 1576 ∷ [] ≡ VDs (stateOf new held) july
-unfolding floor eachFrom sideBySide sumℤ halfUp orZero useCharge allowance excess overrun ofUser EUSTs overrunSums VMEs pvTotal CPVs ns VDs part partsFrom runningShare
+unfolding floor eachFrom sideBySide sumℤ halfUp orZero useCharge allowance excess overrun ofUser EUSTs overrunSums VMEs pvTotal CPVs ns VDs part partsFrom
+    runningShare
 debits-are = refl
 
 left : newCredits (stateOf new held) july ≡ pos 0 ∷ pos 0 ∷ []
-unfolding floor eachFrom sideBySide sumℤ halfUp orZero useCharge allowance excess overrun ofUser EUSTs overrunSums VMEs pvTotal CPVs ns newCredits part partsFrom runningShare
+unfolding floor eachFrom sideBySide sumℤ halfUp orZero useCharge allowance excess overrun ofUser EUSTs overrunSums VMEs pvTotal CPVs ns newCredits part
+    partsFrom runningShare
 left = refl
 
 abbrev vc : List ℤ

@@ -52,7 +52,8 @@ closingRefusal g held cells work l = refusal (stateOf g held) (shortSlices (stat
 
 -- accepted: the ledger with this month; the new credits; a table of the month's credits and debits, which broken cells take the extra
 -- cent being free. Entries beyond stay, and what the work slice holds is free
-pub record Closed (g : Ledger) (held : List ℤ) (l : Lines) (cells : List ℤ) (work : List ℕ) (r : Outcome) (held′ cells′ : List ℤ) (work′ : List ℕ) : Type 0 where
+pub record Closed (g : Ledger) (held : List ℤ) (l : Lines) (cells : List ℤ) (work : List ℕ) (r : Outcome) (held′ cells′ : List ℤ) (work′ : List ℕ)
+    : Type 0 where
   pub outcome : r ≡ record { answer = Accepted; ledger = record { users = g .users; agents = g .agents; month = l .line .month } }
   pub credits : held′ ≡ newCredits (stateOf g held) l ++ drop (g .users) held
   pub table : Table (VCs (stateOf g held) l) (VDs (stateOf g held) l) (take (cellsNeeded (g .users) (g .agents)) cells′)

@@ -22,7 +22,8 @@ unfolding eachFrom
 length-eachFrom k f [] = refl
 length-eachFrom k f (x ∷ xs) = ap suc (length-eachFrom (suc k) f xs)
 
-pub getD-eachFrom : {A B : Type 0} (k : ℕ) (f : ℕ → A → B) (xs : List A) (i : ℕ) (a : A) (b : B) → i < length xs → getD (eachFrom k f xs) i b ≡ f (k + i) (getD xs i a)
+pub getD-eachFrom : {A B : Type 0} (k : ℕ) (f : ℕ → A → B) (xs : List A) (i : ℕ) (a : A) (b : B) → i < length xs
+    → getD (eachFrom k f xs) i b ≡ f (k + i) (getD xs i a)
 unfolding eachFrom
 getD-eachFrom k f [] i a b h = absurd (not-suc-le-zero h)
 getD-eachFrom k f (x ∷ xs) zero a b h = ap (λ (n : ℕ). f n x) (omega arith)
@@ -35,7 +36,8 @@ length-sideBySide f [] ys e = refl
 length-sideBySide f (x ∷ xs) [] e = absurd (omega arith)
 length-sideBySide f (x ∷ xs) (y ∷ ys) e = ap suc (length-sideBySide f xs ys (omega arith))
 
-pub getD-sideBySide : {A B C : Type 0} (f : A → B → C) (xs : List A) (ys : List B) (i : ℕ) (a : A) (b : B) (c : C) → length xs ≡ length ys → i < length xs → getD (sideBySide f xs ys) i c ≡ f (getD xs i a) (getD ys i b)
+pub getD-sideBySide : {A B C : Type 0} (f : A → B → C) (xs : List A) (ys : List B) (i : ℕ) (a : A) (b : B) (c : C) → length xs ≡ length ys → i < length xs
+    → getD (sideBySide f xs ys) i c ≡ f (getD xs i a) (getD ys i b)
 unfolding sideBySide
 getD-sideBySide f [] ys i a b c e h = absurd (not-suc-le-zero h)
 getD-sideBySide f (x ∷ xs) [] i a b c e h = absurd (omega arith)

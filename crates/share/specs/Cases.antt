@@ -10,7 +10,8 @@ use Rattle.share.specs.Running.{part, partsFrom, runningShare}
 use Rattle.share.specs.Answer.{shared, number, place, seenByC}
 
 -- b) −1106 over 1000, 2000 and c) 30 over 300, 1700
-pub by-hand : runningShare (negℤ (pos 1106)) (pos 1000 ∷ pos 2000 ∷ []) ∷ runningShare (pos 30) (pos 300 ∷ pos 1700 ∷ []) ∷ [] ≡ (negℤ (pos 369) ∷ negℤ (pos 737) ∷ []) ∷ (pos 4 ∷ pos 26 ∷ []) ∷ []
+pub by-hand : runningShare (negℤ (pos 1106)) (pos 1000 ∷ pos 2000 ∷ []) ∷ runningShare (pos 30) (pos 300 ∷ pos 1700 ∷ [])
+    ∷ [] ≡ (negℤ (pos 369) ∷ negℤ (pos 737) ∷ []) ∷ (pos 4 ∷ pos 26 ∷ []) ∷ []
 unfolding floor part partsFrom runningShare sumℤ
 by-hand = refl
 

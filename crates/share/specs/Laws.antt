@@ -33,7 +33,8 @@ at-from P W b (w ∷ ws) (suc k) =
 
 pub part-at : (P : ℤ) (ws : List ℤ) (k : ℕ) → getD (runningShare P ws) k (pos 0) ≡ part P (sumℤ (take k ws)) (sumℤ (take (k + 1) ws)) (sumℤ ws)
 unfolding runningShare
-part-at P ws k = rw add-one (at-from P (sumℤ ws) (pos 0) ws k ∙ ap₂ (λ (x y : ℤ). part P x y (sumℤ ws)) (+ℤ-idl (sumℤ (take k ws))) (+ℤ-idl (sumℤ (take (suc k) ws))))
+part-at P ws k = rw add-one (at-from P (sumℤ ws) (pos 0) ws k ∙ ap₂ (λ (x y : ℤ). part P x y (sumℤ ws)) (+ℤ-idl (sumℤ (take k ws)))
+    (+ℤ-idl (sumℤ (take (suc k) ws))))
 
 -- ---- the parts total P
 total-from : (P W b : ℤ) (ws : List ℤ) → sumℤ (partsFrom P W b ws) ≡ part P b (b +ℤ sumℤ ws) W
@@ -52,7 +53,8 @@ near-from P W b [] k z = omega (za, mul# (pos 0) W, mul# P (pos 0), sub# (pos 0 
 near-from P W b (w ∷ ws) zero z = part-near P b w W z
 near-from P W b (w ∷ ws) (suc k) z = near-from P W (b +ℤ w) ws k z
 
-pub parts-near : (P : ℤ) (ws : List ℤ) (k : ℕ) → pos 0 <ℤ sumℤ ws → abs (getD (runningShare P ws) k (pos 0) *ℤ sumℤ ws -ℤ P *ℤ getD ws k (pos 0)) < abs (sumℤ ws)
+pub parts-near : (P : ℤ) (ws : List ℤ) (k : ℕ) → pos 0 <ℤ sumℤ ws → abs (getD (runningShare P ws) k (pos 0) *ℤ sumℤ ws -ℤ P *ℤ getD ws k (pos 0))
+    < abs (sumℤ ws)
 unfolding runningShare
 parts-near P ws k z = near-from P (sumℤ ws) (pos 0) ws k z
 

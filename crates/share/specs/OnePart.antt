@@ -41,7 +41,16 @@ part-whole P W h = rw (floor-whole P W h, floor-none P W h) (omega (za, sub# P (
 -- ---- less than one from the exact share: |part × W − P × w| < W
 near : (x y z q r : ℤ) (n : ℕ) → z ≡ x +ℤ y → IsFloor z n q → IsFloor x n r → abs ((q -ℤ r) *ℤ pos n -ℤ y) < n
 near x y z q r n e f g =
-    omega (za, floor-in f, floor-in g, add# x y, mul# (q -ℤ r) (pos n), ap (λ (t : ℕ). t * n) (sub# q r .sum), sub# ((q -ℤ r) *ℤ pos n) y, one# ((q -ℤ r) *ℤ pos n -ℤ y))
+    omega (
+      za,
+      floor-in f,
+      floor-in g,
+      add# x y,
+      mul# (q -ℤ r) (pos n),
+      ap (λ (t : ℕ). t * n) (sub# q r .sum),
+      sub# ((q -ℤ r) *ℤ pos n) y,
+      one# ((q -ℤ r) *ℤ pos n -ℤ y),
+    )
 
 over : (P b w : ℤ) → P *ℤ (b +ℤ w) ≡ P *ℤ b +ℤ P *ℤ w
 over = all3 _ (λ a b c d e f. simp diff (omega arith))

@@ -18,13 +18,16 @@ slice-aggregate-lay-4 : tie.Need-slice-aggregate-lay-4
 slice-aggregate-lay-4 c = let s = c .before .before .before .before .before .before in sym (part-long 512 (length (s .args .vd .now)) (s .pre .0 .users))
 
 slice-aggregate-lay-5 : tie.Need-slice-aggregate-lay-5
-slice-aggregate-lay-5 c = let s = c .before .before .before .before .before .before .before in sym (part-long 257 (length (s .args .vc .now)) (s .pre .0 .payees))
+slice-aggregate-lay-5 c = let s = c .before .before .before .before .before .before .before in
+    sym (part-long 257 (length (s .args .vc .now)) (s .pre .0 .payees))
 
 slice-aggregate-lay-6 : tie.Need-slice-aggregate-lay-6
-slice-aggregate-lay-6 c = let s = c .before .before .before .before .before .before .before .before in sym (part-long 512 (length (s .args .vd .now)) (s .pre .0 .users))
+slice-aggregate-lay-6 c = let s = c .before .before .before .before .before .before .before .before in
+    sym (part-long 512 (length (s .args .vd .now)) (s .pre .0 .users))
 
 slice-aggregate-lay-7 : tie.Need-slice-aggregate-lay-7
-slice-aggregate-lay-7 c = let s = c .before .before .before .before .before .before .before .before .before in sym (part-long 258 (length (s .args .vc .now) + 1) (omega (arith, s .pre .0 .payees)))
+slice-aggregate-lay-7 c = let s = c .before .before .before .before .before .before .before .before .before in
+    sym (part-long 258 (length (s .args .vc .now) + 1) (omega (arith, s .pre .0 .payees)))
 
 lay-requires : tie.Need-lay-requires
 lay-requires c κs =

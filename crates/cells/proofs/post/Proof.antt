@@ -20,7 +20,8 @@ abbrev μ-loop : tie.MeasureT-loop
 μ-loop cells₀ marks n i₀ cells i = n - i
 
 -- the element and the sum are words
-words : (c : tie.In-loop Inv-loop μ-loop) → SFits w64 (getD (c .before .loop .cells) (c .before .loop .i) (pos 0) +ℤ pos (getD (c .before .before .before .args .marks .now) (c .before .loop .i) 0 - 1)) × SFits w64 (getD (c .before .loop .cells) (c .before .loop .i) (pos 0))
+words : (c : tie.In-loop Inv-loop μ-loop) → SFits w64 (getD (c .before .loop .cells) (c .before .loop .i) (pos 0) +ℤ pos
+    (getD (c .before .before .before .args .marks .now) (c .before .loop .i) 0 - 1)) × SFits w64 (getD (c .before .loop .cells) (c .before .loop .i) (pos 0))
 words c = post-fits (c .before .before .before .pre) (c .before .loop .inv .1) (c .loop-test .taken)
 
 cent-requires : tie.Need-cent-requires Inv-loop μ-loop
@@ -30,7 +31,12 @@ mul-cells : tie.Need-mul-cells Inv-loop μ-loop
 mul-cells c = omega (arith, c .before .before .before .loop .inv .1 .long, c .before .before .loop-test .taken, c .before .before .before .before .before .good)
 
 slice-copy-out-cells : tie.Need-slice-copy-out-cells Inv-loop μ-loop
-slice-copy-out-cells c = omega (arith, c .before .before .before .loop .inv .1 .long, c .before .before .loop-test .taken, c .before .before .before .before .before .good)
+slice-copy-out-cells c = omega (
+  arith,
+  c .before .before .before .loop .inv .1 .long,
+  c .before .before .loop-test .taken,
+  c .before .before .before .before .before .good,
+)
 
 add-cells : tie.Need-add-cells Inv-loop μ-loop
 add-cells c =
@@ -39,10 +45,20 @@ add-cells c =
     simp (toZ-ofZ, l .1, g) (rw (c .before .cent .ensures) (l .0))
 
 mul-t13 : tie.Need-mul-t13 Inv-loop μ-loop
-mul-t13 c = omega (arith, c .before .before .before .before .loop .inv .1 .long, c .before .before .before .loop-test .taken, c .before .before .before .before .before .before .good)
+mul-t13 c = omega (
+  arith,
+  c .before .before .before .before .loop .inv .1 .long,
+  c .before .before .before .loop-test .taken,
+  c .before .before .before .before .before .before .good,
+)
 
 slice-set-from-cells : tie.Need-slice-set-from-cells Inv-loop μ-loop
-slice-set-from-cells c = omega (arith, c .before .before .before .before .loop .inv .1 .long, c .before .before .before .loop-test .taken, c .before .before .before .before .before .before .good)
+slice-set-from-cells c = omega (
+  arith,
+  c .before .before .before .before .loop .inv .1 .long,
+  c .before .before .before .loop-test .taken,
+  c .before .before .before .before .before .before .good,
+)
 
 add-i : tie.Need-add-i Inv-loop μ-loop
 add-i c = omega (arith, c .before .before .before .loop-test .taken, c .before .before .before .before .before .before .good)
@@ -56,7 +72,11 @@ loop-again c =
     let f : SFits w64 (getD (p .cells) (p .i) (pos 0) +ℤ c .before .cent .result) = rw (c .before .cent .ensures) (l .0) in
     let z : getD (p .cells) (p .i) (pos 0) +ℤ c .before .cent .result ≡ getD (s .cells .now) (p .i) (pos 0) +ℤ pos (getD (s .marks .now) (p .i) 0 - 1) =
     ap₂ _+ℤ_ (p .inv .1 .after (p .i) (omega arith)) (c .before .cent .ensures) in
-    simp (toZ-ofZ, l .1, g, f) (omega (arith, c .before .before .before .loop-test .taken), rw zero-add at (filled-more (p .inv .1) (omega (arith, p .inv .1 .long, c .before .before .before .loop-test .taken)) (getD (p .cells) (p .i) (pos 0) +ℤ c .before .cent .result) z))
+    simp (toZ-ofZ, l .1, g, f) (
+      omega (arith, c .before .before .before .loop-test .taken),
+      rw zero-add at (filled-more (p .inv .1) (omega (arith, p .inv .1 .long, c .before .before .before .loop-test .taken))
+          (getD (p .cells) (p .i) (pos 0) +ℤ c .before .cent .result) z),
+    )
 
 returns : tie.Need-returns Inv-loop μ-loop
 returns c =

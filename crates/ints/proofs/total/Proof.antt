@@ -20,7 +20,8 @@ abbrev μ-loop : tie.MeasureT-loop
 entry-fits : (c : tie.After-sum Inv-loop μ-loop) → SFits w64 (getD (c .before .before .before .args .amounts .now) (c .before .before .loop .i) (pos 0))
 entry-fits c = search needs
 
-sum-fits : (c : tie.After-sum Inv-loop μ-loop) → SFits w64 (toZ w64 (c .before .before .loop .sum) +ℤ getD (c .before .before .before .args .amounts .now) (c .before .before .loop .i) (pos 0))
+sum-fits : (c : tie.After-sum Inv-loop μ-loop) → SFits w64 (toZ w64 (c .before .before .loop .sum) +ℤ getD (c .before .before .before .args .amounts .now)
+    (c .before .before .loop .i) (pos 0))
 sum-fits c =
     added-fits (c .before .before .loop .inv) (c .before .before .before .pre) (c .before .loop-test .taken) refl
 

@@ -26,7 +26,8 @@ begun-so :
     (c : tie.After-closing-verdict) (points : List Point)
     → let a = c .before .before .args in
     ScanFinds (a .users .now) (a .n) (a .s) points
-    → Begun (a .ledger) (a .held .now) (monthLines (a .line) (a .agents .now) (a .users .now) points) (a .s) (c .closing-verdict .result) (shortOf (a .ledger) (a .held .now) (a .cells .now) (a .work .now))
+    → Begun (a .ledger) (a .held .now) (monthLines (a .line) (a .agents .now) (a .users .now) points) (a .s) (c .closing-verdict .result)
+    (shortOf (a .ledger) (a .held .now) (a .cells .now) (a .work .now))
 begun-so c points f =
     let a = c .before .before .args in
     begun (a .ledger) (a .held .now) (a .cells .now) (a .work .now) (a .line) (a .agents .now) (a .users .now) f (c .closing-verdict .ensures (a .held .now))
@@ -55,7 +56,8 @@ module _ (c : tie.After-enum-told) where
   fine : j .judge .result .verdict ≡ Accepted
   fine = c .enum-told .given .1
 
-  told : let a = s .args in Found (a .ledger) (a .held .now) (a .cells .now) (a .work .now) (a .line) (a .agents .now) (a .users .now) (s .pre .0) (j .judge .result)
+  told : let a = s .args in Found (a .ledger) (a .held .now) (a .cells .now) (a .work .now) (a .line) (a .agents .now) (a .users .now) (s .pre .0)
+      (j .judge .result)
   told = judged j (s .pre .0) (s .pre .1)
 
   held-there : length (s .args .users .now) ≤ length (s .args .held .now)

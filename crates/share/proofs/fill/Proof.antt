@@ -66,7 +66,11 @@ module _ {P W : ℤ} {ws old : List ℤ} (f : Fillable P W ws old) where
     next-cast = rw next (omega (za, through-low (i + 1), through-high (i + 1), f .most))
 
     asked : (abs P ≤ 100000000000000000) × (natAbs (through +ℤ getD ws i (pos 0)) ≤ natAbs W) × (0 < natAbs W)
-    asked = rw next (f .amount, omega (za, abs-is (sumℤ (take (i + 1) ws)), abs-is W, through-low (i + 1), through-high (i + 1)), omega (za, abs-is W, above-zero))
+    asked = rw next (
+      f .amount,
+      omega (za, abs-is (sumℤ (take (i + 1) ws)), abs-is W, through-low (i + 1), through-high (i + 1)),
+      omega (za, abs-is W, above-zero),
+    )
 
     -- what `floor_of` answers
     upper-is : {q : ℤ} → q ≡ floor (P *ℤ pos (natAbs (through +ℤ getD ws i (pos 0)))) (pos (natAbs W)) → q ≡ floor (P *ℤ sumℤ (take (i + 1) ws)) W
@@ -95,7 +99,8 @@ module _ {P W : ℤ} {ws old : List ℤ} (f : Fillable P W ws old) where
       }
 
 abbrev Inv-loop : tie.InvT-loop
-Inv-loop p total weights parts₀ n w through₀ lower₀ i₀ parts through lower i = Turn (toZ w64 p) (toZ w64 total) (toZ w64 through) (toZ w64 lower) weights parts₀ parts i
+Inv-loop p total weights parts₀ n w through₀ lower₀ i₀ parts through lower i = Turn (toZ w64 p) (toZ w64 total) (toZ w64 through)
+    (toZ w64 lower) weights parts₀ parts i
 
 abbrev μ-loop : tie.MeasureT-loop
 μ-loop p total weights parts₀ n w through₀ lower₀ i₀ parts through lower i = n - i
@@ -125,7 +130,8 @@ cast-floor-of c = simp (toZ-ofZ, weight-fits c, sum-fits c) (next-cast (asks (s 
 floor-of-requires : tie.Need-floor-of-requires Inv-loop μ-loop
 floor-of-requires c κs = rw (toZ-ofZ (weight-fits c), toZ-ofZ (sum-fits c)) (asked (asks (s c)) (c .before .before .loop .inv) (c .before .loop-test .taken))
 
-result-is : (c : tie.After-floor-of Inv-loop μ-loop) → let a = s (c .before) .args in c .floor-of .result ≡ floor (back (a .p) *ℤ sumℤ (take (c .before .before .before .loop .i + 1) (a .weights .now))) (back (a .total))
+result-is : (c : tie.After-floor-of Inv-loop μ-loop) → let a = s (c .before) .args in
+    c .floor-of .result ≡ floor (back (a .p) *ℤ sumℤ (take (c .before .before .before .loop .i + 1) (a .weights .now))) (back (a .total))
 result-is c =
     upper-is (asks (s (c .before))) (c .before .before .before .loop .inv) (c .before .before .loop-test .taken)
     (rw (toZ-ofZ (weight-fits (c .before)), toZ-ofZ (sum-fits (c .before))) at (c .floor-of .ensures))

@@ -81,7 +81,8 @@ amount-fine c = simp (toZ-ofZ, c .before .before .fits .p) at (sym (c .before .o
 total-fine : (c : tie.Else2) → badTotal (c .before .before .before .before .args .w) ≡ false
 total-fine c = simp (toZ-ofZ, c .before .before .before .before .fits .w) at (sym (c .before .outside2 .ensures) ∙ c .if2 .left)
 
-sums-are : (c : tie.After-bad-sums) → let s = c .before .before .before .before .before in c .bad-sums .result ≡ badSums (s .args .before) (s .args .through) (s .args .w)
+sums-are : (c : tie.After-bad-sums) → let s = c .before .before .before .before .before in
+    c .bad-sums .result ≡ badSums (s .args .before) (s .args .through) (s .args .w)
 sums-are c =
     let s = c .before .before .before .before .before in
     simp (toZ-ofZ, s .fits .before, s .fits .through, s .fits .w) at (c .bad-sums .ensures)
@@ -118,7 +119,8 @@ cast-floor-of-2 c =
     simp (toZ-ofZ, f .w) (cast _ (above-zero (l .total)) (f .w))
 
 -- what `floor_of` asks, of a weight sum t
-asked : (P : ℤ) {t W : ℤ} → abs P ≤ 100000000000000000 → pos 0 ≤ℤ t → t ≤ℤ W → pos 1 ≤ℤ W → (abs P ≤ 100000000000000000) × (natAbs t ≤ natAbs W) × (0 < natAbs W)
+asked : (P : ℤ) {t W : ℤ} → abs P ≤ 100000000000000000 → pos 0 ≤ℤ t → t ≤ℤ W → pos 1 ≤ℤ W → (abs P ≤ 100000000000000000) × (natAbs t ≤ natAbs W)
+    × (0 < natAbs W)
 asked P {t} {W} h k j z = (h, omega (za, abs-is t, abs-is W), omega (za, abs-is W))
 
 floor-of-requires : tie.Need-floor-of-requires
@@ -148,13 +150,15 @@ floor-of-requires-2 c κs =
     simp (toZ-ofZ, f .p, f .before, f .w) (asked (s .args .p) (l .amount) (l .low) (≤-trans (l .between) (l .through)) (l .total))
 
 -- what the two calls answered
-upper-is : (c : tie.After-floor-of) → let s = c .before .before .before .before .before .before .before in c .floor-of .result ≡ floor (s .args .p *ℤ s .args .through) (s .args .w)
+upper-is : (c : tie.After-floor-of) → let s = c .before .before .before .before .before .before .before in
+    c .floor-of .result ≡ floor (s .args .p *ℤ s .args .through) (s .args .w)
 upper-is c =
     let s = c .before .before .before .before .before .before .before in
     let l = fine (c .before) in
     simp (toZ-ofZ, s .fits .p, s .fits .through, s .fits .w, size _ (≤-trans (l .low) (l .between)), size _ (above-zero (l .total))) at (c .floor-of .ensures)
 
-lower-is : (c : tie.After-floor-of2) → let s = c .before .before .before .before .before .before .before .before in c .floor-of2 .result ≡ floor (s .args .p *ℤ s .args .before) (s .args .w)
+lower-is : (c : tie.After-floor-of2) → let s = c .before .before .before .before .before .before .before .before in
+    c .floor-of2 .result ≡ floor (s .args .p *ℤ s .args .before) (s .args .w)
 lower-is c =
     let s = c .before .before .before .before .before .before .before .before in
     let l = fine (c .before .before) in

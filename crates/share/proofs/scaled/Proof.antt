@@ -18,7 +18,8 @@ quot-lt a t w h k z = div-lt-iff-lt-mul z .1 (lt-of-le-of-lt (mul-le-mul-left a 
 exact : (c : tie.After-of-product) → c .of-product .result ≡ Exact (divided (c .before .args .a * c .before .args .t) (c .before .args .w))
 exact c =
     let a = c .before .args in
-    c .of-product .ensures ∙ ratio-exact (a .a) (a .t) (a .w) (c .before .pre .1) (quot-lt (a .a) (a .t) (a .w) (c .before .fits .a .fits) (c .before .pre .0) (c .before .pre .1))
+    c .of-product .ensures ∙ ratio-exact (a .a) (a .t) (a .w) (c .before .pre .1)
+    (quot-lt (a .a) (a .t) (a .w) (c .before .fits .a .fits) (c .before .pre .0) (c .before .pre .1))
 
 same : {d e : Divided} → Exact d ≡ Exact e → d ≡ e
 same p = cc

@@ -25,7 +25,13 @@ whole p t w q z l e = split-out (omega (arith, mul# p (pos t), ap (λ (n : ℕ).
 broken : (p : ℤ) (t w q m : ℕ) → up p ≡ 0 → q * w + m ≡ dn p * t → m < w → 0 < m → Split (p *ℤ pos t) w (pos 0 -ℤ pos q -ℤ pos 1) (w - m)
 broken p t w q m z e l k =
     split-out
-    (omega (arith, mul# p (pos t), ap (λ (n : ℕ). n * t) z, ap (λ (n : ℕ). n * w) (sub# (pos 0) (pos q) .sum), ap (λ (n : ℕ). n * w) (sub# (pos 0 -ℤ pos q) (pos 1) .sum)))
+    (omega (
+      arith,
+      mul# p (pos t),
+      ap (λ (n : ℕ). n * t) z,
+      ap (λ (n : ℕ). n * w) (sub# (pos 0) (pos q) .sum),
+      ap (λ (n : ℕ). n * w) (sub# (pos 0 -ℤ pos q) (pos 1) .sum),
+    ))
     (omega arith)
 
 -- what `scaled` tells of its quotient and remainder
@@ -102,14 +108,16 @@ returns-2 c =
     let l = quot-small s in
     let z = below-zero (c .before) in
     simp (word q l, toZ-ofZ, minus q l, minus-one q l)
-    (broken (s .args .p) (s .args .t) (s .args .w) q (s .args .d .rem) z (low-part (s .args .p) (s .args .t) _ z (known s .sum)) (known s .small) (pos-of-ne-zero (c .if2 .left)))
+    (broken (s .args .p) (s .args .t) (s .args .w) q (s .args .d .rem) z (low-part (s .args .p) (s .args .t) _ z (known s .sum)) (known s .small)
+    (pos-of-ne-zero (c .if2 .left)))
 
 returns-3 : tie.Need-returns-3
 returns-3 c =
     let s = c .before .before in
     let q = s .args .d .quot in
     let z = not-below c in
-    simp (word q (quot-small s)) (above (s .args .p) (s .args .t) (s .args .w) q (s .args .d .rem) z (high-part (s .args .p) (s .args .t) _ z (known s .sum)) (known s .small))
+    simp (word q (quot-small s)) (above (s .args .p) (s .args .t) (s .args .w) q (s .args .d .rem) z (high-part (s .args .p) (s .args .t) _ z (known s .sum))
+    (known s .small))
 
 pub signed-spec : {M : Type 1} → statement M
 signed-spec =

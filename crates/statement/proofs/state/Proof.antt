@@ -37,7 +37,8 @@ use denote.Triple.Call.{calls-at}
 use denote.Triple.Entry.{Vals, onEntry}
 use denote.Triple.Spec.{Meets, tripleOf}
 use denote.Triple.Table.{entered, cited}
-use denote.Triple.Walked.{says, Stays, stay-none-slice, stay-none, gave-slice, walkOf, goes-none-slice, goes-none, goes-gave-slice, Walks, ends-at, walked, walk-meets}
+use denote.Triple.Walked.{says, Stays, stay-none-slice, stay-none, gave-slice, walkOf, goes-none-slice}
+use denote.Triple.Walked.{goes-none, goes-gave-slice, Walks, ends-at, walked, walk-meets}
 use denote.Exit.{yes}
 use Rattle.rules.specs.declared.Point.{Point}
 use Rattle.rules.specs.declared.Ledger.{Ledger}

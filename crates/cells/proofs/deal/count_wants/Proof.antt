@@ -14,7 +14,10 @@ abbrev μ-loop : tie.MeasureT-loop
 μ-loop marks wants i counts₀ n base j₀ counts j = n - j
 
 loop-again : tie.Need-loop-again Inv-loop μ-loop
-loop-again c = (omega (arith, c .before .before .before .before .before .before .loop-test .taken), simp length-set (c .before .before .before .before .before .before .before .loop .inv .1))
+loop-again c = (
+  omega (arith, c .before .before .before .before .before .before .loop-test .taken),
+  simp length-set (c .before .before .before .before .before .before .before .loop .inv .1),
+)
 
 pub count-wants-spec : {M : Type 1} → statement M
 count-wants-spec =

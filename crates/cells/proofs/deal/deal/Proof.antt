@@ -8,7 +8,8 @@ use Rattle.cells.proofs.deal.deal.Statement.{statement}
 use Rattle.cells.proofs.deal.deal.Tie as tie
 
 abbrev Inv-loop : tie.InvT-loop
-Inv-loop marks₀ lacks₀ wants₀ counts₀ m n i₀ marks lacks wants counts i = (i ≤ m) × Kept m n marks₀ lacks₀ wants₀ marks lacks wants × (length counts ≡ length counts₀)
+Inv-loop marks₀ lacks₀ wants₀ counts₀ m n i₀ marks lacks wants counts i = (i ≤ m) × Kept m n marks₀ lacks₀ wants₀ marks lacks wants
+    × (length counts ≡ length counts₀)
 
 abbrev μ-loop : tie.MeasureT-loop
 μ-loop marks₀ lacks₀ wants₀ counts₀ m n i₀ marks lacks wants counts i = m - i
@@ -21,7 +22,12 @@ deal-row-requires c κs =
     (record { cells = k .cells ∙ s .pre .cells ∙ sym (ap₂ _*_ (k .tall) (k .wide)) }, omega (arith, k .tall, l .loop-test .taken))
 
 add-i : tie.Need-add-i Inv-loop μ-loop
-add-i c = omega (arith, c .before .before .before .before .before .before .before .before .before .before .before .before .before .loop-test .taken, c .before .before .before .before .before .before .before .before .before .before .before .before .before .before .before .before .before .before .before .good)
+add-i c = omega (
+  arith,
+  c .before .before .before .before .before .before .before .before .before .before .before .before .before .loop-test .taken,
+  c .before .before .before .before .before .before .before .before .before .before .before .before .before .before .before .before .before .before .before
+      .good,
+)
 
 loop-less : tie.Need-loop-less Inv-loop μ-loop
 loop-less c = omega (arith, c .before .before .before .before .before .before .before .before .before .before .before .before .before .loop-test .taken)

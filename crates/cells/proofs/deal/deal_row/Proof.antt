@@ -17,9 +17,13 @@ count-wants-requires c κs =
 
 take-requires-2 : tie.Need-take-requires-2
 take-requires-2 c κs =
-    let s = c .before .before .before .before .before .before .before .before .before .before .before .before .before .before .before .before .before .before .before .before .before .before .before .before .before .before .before .before .before .before in
-    let k = c .before .before .before .before .before .before .before .before .before .take .ensures in
-    (record { cells = k .cells ∙ s .pre .0 .cells ∙ sym (ap₂ _*_ (k .tall) (k .wide)) }, omega (arith, k .tall, s .pre .1), c .before .before .before .before .before .before .before .before .before .before .before .before .before .level .ensures .0)
+    let s = c .before .before .before .before .before .before .before .before .before .before .before .before .before .before .before .before .before .before
+    .before .before .before .before .before .before .before .before .before .before .before .before in
+    let k = c .before .before .before .before .before .before .before .before .before .take .ensures in (
+      record { cells = k .cells ∙ s .pre .0 .cells ∙ sym (ap₂ _*_ (k .tall) (k .wide)) },
+      omega (arith, k .tall, s .pre .1),
+      c .before .before .before .before .before .before .before .before .before .before .before .before .before .level .ensures .0,
+    )
 
 returns : tie.Need-returns
 returns c =

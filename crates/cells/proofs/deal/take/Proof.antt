@@ -47,7 +47,11 @@ slice-read-wants : tie.Need-slice-read-wants Inv-loop μ-loop
 slice-read-wants c = here (c .before .before .before .before .before .before .before) .column
 
 sub-wants : tie.Need-sub-wants Inv-loop μ-loop
-sub-wants c = omega (arith, c .before .before .before .before .before .if1 .taken, c .before .before .before .before .before .before .before .before .before .pre .2)
+sub-wants c = omega (
+  arith,
+  c .before .before .before .before .before .if1 .taken,
+  c .before .before .before .before .before .before .before .before .before .pre .2,
+)
 
 slice-write-wants : tie.Need-slice-write-wants Inv-loop μ-loop
 slice-write-wants c = here (c .before .before .before .before .before .before .before) .column
@@ -68,11 +72,16 @@ loop-again c =
     let h = here l in (
       omega (arith, l .loop-test .taken),
       kept-then (l .before .loop .inv .1)
-          (kept-mark _ _ _ (s .args .i) (l .before .loop .j) (s .pre .1) (l .loop-test .taken) (h .cell) (h .row) (h .column) (c .before .before .before .before .if2 .taken) (c .before .before .if3 .taken) (omega (arith, c .before .before .before .before .before .before .if1 .taken, s .pre .2))),
+          (kept-mark _ _ _ (s .args .i) (l .before .loop .j) (s .pre .1) (l .loop-test .taken) (h .cell) (h .row) (h .column)
+          (c .before .before .before .before .if2 .taken) (c .before .before .if3 .taken)
+          (omega (arith, c .before .before .before .before .before .before .if1 .taken, s .pre .2))),
     )
 
 loop-again-2 : tie.Need-loop-again-2 Inv-loop μ-loop
-loop-again-2 c = (omega (arith, c .before .before .before .before .before .before .loop-test .taken), c .before .before .before .before .before .before .before .loop .inv .1)
+loop-again-2 c = (
+  omega (arith, c .before .before .before .before .before .before .loop-test .taken),
+  c .before .before .before .before .before .before .before .loop .inv .1,
+)
 
 loop-again-3 : tie.Need-loop-again-3 Inv-loop μ-loop
 loop-again-3 c = (omega (arith, c .before .before .before .before .loop-test .taken), c .before .before .before .before .before .loop .inv .1)

@@ -26,12 +26,14 @@ use Rattle.share.proofs.weights.at_rate.Reads as at-rate-reads
 use Rattle.share.proofs.weights.rate_of.Reads as rate-of-reads
 
 abbrev Inv-loop : tie.InvT-loop
-Inv-loop v debits w cells₀ marks₀ wants₀ lefts₀ base n k lacks₀ left₀ j₀ cells marks wants lefts lacks left j = RowGoing (toZ w64 v) debits w cells₀ marks₀ wants₀ lefts₀ base cells marks wants lefts j lacks left
+Inv-loop v debits w cells₀ marks₀ wants₀ lefts₀ base n k lacks₀ left₀ j₀ cells marks wants lefts lacks left j =
+    RowGoing (toZ w64 v) debits w cells₀ marks₀ wants₀ lefts₀ base cells marks wants lefts j lacks left
 
 abbrev μ-loop : tie.MeasureT-loop
 μ-loop v debits w cells₀ marks₀ wants₀ lefts₀ base n k lacks₀ left₀ j₀ cells marks wants lefts lacks left j = n - j
 
-asks : (c : tie.Start Inv-loop μ-loop) → RowAsks (back (c .args .v)) (c .args .debits .now) (c .args .w) (c .args .cells .now) (c .args .marks .now) (c .args .wants .now) (c .args .lefts .now) (c .args .base)
+asks : (c : tie.Start Inv-loop μ-loop) → RowAsks (back (c .args .v)) (c .args .debits .now) (c .args .w) (c .args .cells .now) (c .args .marks .now)
+    (c .args .wants .now) (c .args .lefts .now) (c .args .base)
 asks c = rw (toZ-ofZ (c .fits .v)) (c .pre)
 
 -- the places of the turn's cell and column
@@ -56,19 +58,33 @@ here c =
     }
 
 -- the floor and the rest
-got : (c : tie.After-signed Inv-loop μ-loop) → let s = c .before .before .before .before .before .before .before .before .before .before .before in let j = c .before .before .before .before .loop .j in (c .signed .result .quot ≡ quotAt (back (s .args .v)) (s .args .debits .now) (s .args .w) j) × (c .signed .result .rem ≡ restAt (back (s .args .v)) (s .args .debits .now) (s .args .w) j)
+got : (c : tie.After-signed Inv-loop μ-loop) → let s = c .before .before .before .before .before .before .before .before .before .before .before in
+    let j = c .before .before .before .before .loop .j in (c .signed .result .quot ≡ quotAt (back (s .args .v)) (s .args .debits .now) (s .args .w) j)
+    × (c .signed .result .rem ≡ restAt (back (s .args .v)) (s .args .debits .now) (s .args .w) j)
 got c = (quot-is (c .signed .ensures), rest-is (c .signed .ensures))
 
 -- the two sums
-column : (c : tie.After-signed Inv-loop μ-loop) → let s = c .before .before .before .before .before .before .before .before .before .before .before in let l = c .before .before .before .before .loop in getD (l .lefts) (l .j) 0 + c .signed .result .rem < s .args .w + s .args .w
+column : (c : tie.After-signed Inv-loop μ-loop) → let s = c .before .before .before .before .before .before .before .before .before .before .before in
+    let l = c .before .before .before .before .loop in getD (l .lefts) (l .j) 0 + c .signed .result .rem < s .args .w + s .args .w
 column c =
     let l = c .before .before .before .before .loop in
-    omega (arith, column-sum (asks (c .before .before .before .before .before .before .before .before .before .before .before)) (l .inv) (c .before .before .before .loop-test .taken), got c .1)
+    omega (
+      arith,
+      column-sum (asks (c .before .before .before .before .before .before .before .before .before .before .before)) (l .inv)
+          (c .before .before .before .loop-test .taken),
+      got c .1,
+    )
 
-whole : (c : tie.After-signed Inv-loop μ-loop) → let s = c .before .before .before .before .before .before .before .before .before .before .before in c .before .before .before .before .loop .left + c .signed .result .rem < s .args .w + s .args .w
+whole : (c : tie.After-signed Inv-loop μ-loop) → let s = c .before .before .before .before .before .before .before .before .before .before .before in
+    c .before .before .before .before .loop .left + c .signed .result .rem < s .args .w + s .args .w
 whole c =
     let l = c .before .before .before .before .loop in
-    omega (arith, row-sum (asks (c .before .before .before .before .before .before .before .before .before .before .before)) (l .inv) (c .before .before .before .loop-test .taken), got c .1)
+    omega (
+      arith,
+      row-sum (asks (c .before .before .before .before .before .before .before .before .before .before .before)) (l .inv)
+          (c .before .before .before .loop-test .taken),
+      got c .1,
+    )
 
 -- src/floors.rt:59:37
 size-requires : tie.Need-size-requires Inv-loop μ-loop
@@ -92,15 +108,21 @@ shared-slice-read-x c = omega arith
 
 -- src/floors.rt:65:13
 at-rate-requires : tie.Need-at-rate-requires Inv-loop μ-loop
-at-rate-requires c κs = let a = asks (c .before .before .before .before .before .before .before .before .before) in (c .before .before .before .rate-of .ensures .0, a .parts (c .before .before .loop .j), a .most)
+at-rate-requires c κs = let a = asks (c .before .before .before .before .before .before .before .before .before) in
+    (c .before .before .before .rate-of .ensures .0, a .parts (c .before .before .loop .j), a .most)
 
 -- src/floors.rt:66:13
 signed-requires : tie.Need-signed-requires Inv-loop μ-loop
 signed-requires c κs =
     let s = c .before .before .before .before .before .before .before .before .before .before in
     let a = asks s in
-    let e = c .before .before .before .before .rate-of .ensures .1 ∙ c .before .before .before .before .before .size .ensures in
-    (a .value, a .parts (c .before .before .before .loop .j), a .some, c .at-rate .ensures ∙ ap (λ (n : ℕ). divided (n * getD (s .args .debits .now) (c .before .before .before .loop .j) 0) (s .args .w)) e)
+    let e = c .before .before .before .before .rate-of .ensures .1 ∙ c .before .before .before .before .before .size .ensures in (
+      a .value,
+      a .parts (c .before .before .before .loop .j),
+      a .some,
+      c .at-rate .ensures
+          ∙ ap (λ (n : ℕ). divided (n * getD (s .args .debits .now) (c .before .before .before .loop .j) 0) (s .args .w)) e,
+    )
 
 -- src/floors.rt:69:15
 add-q : tie.Need-add-q Inv-loop μ-loop
@@ -140,7 +162,12 @@ slice-read-s c = here (c .before .before .before .before .before .before) .left
 
 -- src/floors.rt:71:17
 add-s : tie.Need-add-s Inv-loop μ-loop
-add-s c = omega (arith, column (c .before .before .before), c .before .before .before .before .before .before .before .before .before .before .before .before .before .before .pre .most)
+add-s c = omega (
+  arith,
+  column (c .before .before .before),
+  c .before .before .before .before .before .before .before .before .before .before .before .before
+      .before .before .pre .most,
+)
 
 -- src/floors.rt:72:13
 carry-requires : tie.Need-carry-requires Inv-loop μ-loop
@@ -148,7 +175,12 @@ carry-requires c κs = column (c .before .before .before)
 
 -- src/floors.rt:73:24
 mul-lefts : tie.Need-mul-lefts Inv-loop μ-loop
-mul-lefts c = omega (arith, c .carry .ensures .low, column (c .before .before .before .before), c .before .before .before .before .before .before .before .before .before .before .before .before .before .before .before .pre .most)
+mul-lefts c = omega (
+  arith,
+  c .carry .ensures .low,
+  column (c .before .before .before .before),
+  c .before .before .before .before .before .before .before .before .before .before .before .before .before .before .before .pre .most,
+)
 
 -- src/floors.rt:73:20
 sub-lefts : tie.Need-sub-lefts Inv-loop μ-loop
@@ -172,7 +204,13 @@ slice-read-wants c = here (c .before .before .before .before .before .before .be
 
 -- src/floors.rt:74:20
 add-wants : tie.Need-add-wants Inv-loop μ-loop
-add-wants c = omega (arith, column-few (asks (c .before .before .before .before .before .before .before .before .before .before .before .before .before .before .before .before)) (c .before .before .before .before .before .before .before .before .before .loop .inv) (c .before .before .before .before .before .before .before .before .loop-test .taken), c .before .carry .ensures .once)
+add-wants c = omega (
+  arith,
+  column-few (asks (c .before .before .before .before .before .before .before .before .before .before .before .before .before .before
+      .before .before)) (c .before .before .before .before .before .before .before .before .before .loop .inv)
+      (c .before .before .before .before .before .before .before .before .loop-test .taken),
+  c .before .carry .ensures .once,
+)
 
 -- src/floors.rt:74:9
 mul-wants-2 : tie.Need-mul-wants-2 Inv-loop μ-loop
@@ -184,7 +222,12 @@ slice-write-wants c = here (c .before .before .before .before .before .before .b
 
 -- src/floors.rt:75:17
 add-t : tie.Need-add-t Inv-loop μ-loop
-add-t c = omega (arith, whole (c .before .before .before .before .before), c .before .before .before .before .before .before .before .before .before .before .before .before .before .before .before .before .pre .most)
+add-t c = omega (
+  arith,
+  whole (c .before .before .before .before .before),
+  c .before .before .before .before .before .before .before .before .before .before
+      .before .before .before .before .before .before .pre .most,
+)
 
 -- src/floors.rt:76:13
 carry-requires-2 : tie.Need-carry-requires-2 Inv-loop μ-loop
@@ -192,7 +235,12 @@ carry-requires-2 c κs = whole (c .before .before .before .before .before)
 
 -- src/floors.rt:77:20
 mul-left : tie.Need-mul-left Inv-loop μ-loop
-mul-left c = omega (arith, c .carry2 .ensures .low, whole (c .before .before .before .before .before .before), c .before .before .before .before .before .before .before .before .before .before .before .before .before .before .before .before .before .pre .most)
+mul-left c = omega (
+  arith,
+  c .carry2 .ensures .low,
+  whole (c .before .before .before .before .before .before),
+  c .before .before .before .before .before .before .before .before .before .before .before .before .before .before .before .before .before .pre .most,
+)
 
 -- src/floors.rt:77:16
 sub-left : tie.Need-sub-left Inv-loop μ-loop
@@ -200,11 +248,21 @@ sub-left c = c .carry2 .ensures .low
 
 -- src/floors.rt:78:9
 add-lacks : tie.Need-add-lacks Inv-loop μ-loop
-add-lacks c = omega (arith, c .before .before .before .before .before .before .before .before .before .before .loop .inv .few, c .carry2 .ensures .once, c .before .before .before .before .before .before .before .before .before .loop-test .taken, c .before .before .before .before .before .before .before .before .before .before .before .before .before .before .before .before .before .good)
+add-lacks c = omega (
+  arith,
+  c .before .before .before .before .before .before .before .before .before .before .loop .inv .few,
+  c .carry2 .ensures .once,
+  c .before .before .before .before .before .before .before .before .before .loop-test .taken,
+  c .before .before .before .before .before .before .before .before .before .before .before .before .before .before .before .before .before .good,
+)
 
 -- src/floors.rt:79:9
 add-j : tie.Need-add-j Inv-loop μ-loop
-add-j c = omega (arith, c .before .before .before .before .before .before .before .before .before .loop-test .taken, c .before .before .before .before .before .before .before .before .before .before .before .before .before .before .before .before .before .good)
+add-j c = omega (
+  arith,
+  c .before .before .before .before .before .before .before .before .before .loop-test .taken,
+  c .before .before .before .before .before .before .before .before .before .before .before .before .before .before .before .before .before .good,
+)
 
 -- src/floors.rt:63:5
 loop-less : tie.Need-loop-less Inv-loop μ-loop
@@ -217,7 +275,10 @@ loop-again c =
     let l = c .before .before .before .before .before .before .before .before .before in
     let g : SFits w64 (f .signed .result .quot) = search needs in
     rw (toZ-ofZ g)
-    (row-more (asks (c .before .before .before .before .before .before .before .before .before .before .before .before .before .before .before .before .before)) (l .before .loop .inv) (l .loop-test .taken) (f .signed .result .quot) (f .signed .result .rem) (got f .0) (got f .1) (c .before .before .before .before .broken .result) (c .before .before .before .before .broken .ensures) (c .before .before .carry .result) (c .before .before .carry .ensures) (c .carry2 .result) (c .carry2 .ensures))
+    (row-more (asks (c .before .before .before .before .before .before .before .before .before .before .before .before .before .before .before .before .before))
+    (l .before .loop .inv) (l .loop-test .taken) (f .signed .result .quot) (f .signed .result .rem) (got f .0) (got f .1)
+    (c .before .before .before .before .broken .result) (c .before .before .before .before .broken .ensures) (c .before .before .carry .result)
+    (c .before .before .carry .ensures) (c .carry2 .result) (c .carry2 .ensures))
 
 -- src/floors.rt:45:1
 same-length : tie.Need-same-length Inv-loop μ-loop

@@ -19,7 +19,8 @@ Inv-loop vc debits w cells₀ marks₀ lacks₀ wants₀ lefts₀ m n i₀ cells
 abbrev μ-loop : tie.MeasureT-loop
 μ-loop vc debits w cells₀ marks₀ lacks₀ wants₀ lefts₀ m n i₀ cells marks lacks wants lefts i = m - i
 
-credit : (c : tie.In-loop Inv-loop μ-loop) → SFits w64 (getD (c .before .before .before .before .before .before .before .args .vc .now) (c .before .loop .i) (pos 0))
+credit : (c : tie.In-loop Inv-loop μ-loop) → SFits w64 (getD (c .before .before .before .before .before .before .before .args .vc .now) (c .before .loop .i)
+    (pos 0))
 credit c =
     let s = c .before .before .before .before .before .before .before in
     small-fits 100000000000000000 (s .args .vc .now) (c .before .loop .i) (omega arith) (c .loop-test .taken) (s .pre .0 .values)
@@ -33,21 +34,44 @@ mul-floor-row c = omega (arith, c .before .before .before .before .before .befor
 mul-floor-row-2 : tie.Need-mul-floor-row-2 Inv-loop μ-loop
 mul-floor-row-2 c =
     let s = c .before .before .before .before .before .before .before .before .before .before .before .before in
-    omega (arith, s .pre .1 .marks-long, mul-le-mul-right (length (s .args .debits .now)) (c .before .before .before .before .before .loop-test .taken), s .good)
+    omega (
+      arith,
+      s .pre .1 .marks-long,
+      mul-le-mul-right (length (s .args .debits .now)) (c .before .before .before .before .before .loop-test .taken),
+      s .good,
+    )
 
 floor-row-requires : tie.Need-floor-row-requires Inv-loop μ-loop
 floor-row-requires c κs =
     let l = c .before .before .before .before .before in
-    rw (toZ-ofZ (credit l)) (row-asks (c .before .before .before .before .before .before .before .before .before .before .before .before .pre .0) (l .before .loop .inv) (l .loop-test .taken))
+    rw (toZ-ofZ (credit l)) (row-asks (c .before .before .before .before .before .before .before .before .before .before .before .before .pre .0)
+    (l .before .loop .inv) (l .loop-test .taken))
 
 mul-lacks : tie.Need-mul-lacks Inv-loop μ-loop
-mul-lacks c = omega (arith, c .before .before .before .before .before .before .before .before .before .before .before .before .before .before .loop .inv .lacks-long, c .before .before .before .before .before .before .before .before .before .before .before .before .before .loop-test .taken, c .before .before .before .before .before .before .before .before .before .before .before .before .before .before .before .before .before .before .before .before .good)
+mul-lacks c = omega (
+  arith,
+  c .before .before .before .before .before .before .before .before .before .before .before .before .before .before .loop .inv
+      .lacks-long,
+  c .before .before .before .before .before .before .before .before .before .before .before .before .before .loop-test .taken,
+  c .before .before .before .before .before .before .before .before .before .before .before .before .before .before .before .before .before .before .before
+      .before .good,
+)
 
 slice-write-lacks : tie.Need-slice-write-lacks Inv-loop μ-loop
-slice-write-lacks c = omega (arith, c .before .before .before .before .before .before .before .before .before .before .before .before .before .before .loop .inv .lacks-long, c .before .before .before .before .before .before .before .before .before .before .before .before .before .loop-test .taken)
+slice-write-lacks c = omega (
+  arith,
+  c .before .before .before .before .before .before .before .before .before .before .before .before .before .before .loop .inv
+      .lacks-long,
+  c .before .before .before .before .before .before .before .before .before .before .before .before .before .loop-test .taken,
+)
 
 add-i : tie.Need-add-i Inv-loop μ-loop
-add-i c = omega (arith, c .before .before .before .before .before .before .before .before .before .before .before .before .before .loop-test .taken, c .before .before .before .before .before .before .before .before .before .before .before .before .before .before .before .before .before .before .before .before .good)
+add-i c = omega (
+  arith,
+  c .before .before .before .before .before .before .before .before .before .before .before .before .before .loop-test .taken,
+  c .before .before .before .before .before .before .before .before .before .before .before .before .before .before .before .before .before .before .before
+      .before .good,
+)
 
 loop-less : tie.Need-loop-less Inv-loop μ-loop
 loop-less c = omega (arith, c .before .before .before .before .before .before .before .before .before .before .before .before .before .loop-test .taken)
@@ -55,7 +79,9 @@ loop-less c = omega (arith, c .before .before .before .before .before .before .b
 loop-again : tie.Need-loop-again Inv-loop μ-loop
 loop-again c =
     let l = c .before .before .before .before .before .before .before .before .before .before .before .before .before in
-    rowed-more (c .before .before .before .before .before .before .before .before .before .before .before .before .before .before .before .before .before .before .before .before .pre .0) (l .before .loop .inv) (l .loop-test .taken) (rw (toZ-ofZ (credit l)) at (c .before .before .before .before .before .before .before .floor-row .ensures))
+    rowed-more (c .before .before .before .before .before .before .before .before .before .before .before .before .before .before .before .before .before
+    .before .before .before .pre .0) (l .before .loop .inv) (l .loop-test .taken)
+    (rw (toZ-ofZ (credit l)) at (c .before .before .before .before .before .before .before .floor-row .ensures))
 
 same-length : tie.Need-same-length Inv-loop μ-loop
 same-length c = c .before .loop .inv .cells-long ∙ sym (c .before .before .before .before .before .before .before .pre .1 .cells-long)
@@ -73,7 +99,8 @@ same-length-5 : tie.Need-same-length-5 Inv-loop μ-loop
 same-length-5 c = c .before .loop .inv .lefts-long ∙ sym (c .before .before .before .before .before .before .before .pre .1 .lefts-long)
 
 returns : tie.Need-returns Inv-loop μ-loop
-returns c = let s = c .before .before .before .before .before .before .before in floored (s .pre .0) (c .before .loop .i) (c .before .loop .inv) (c .loop-test .left)
+returns c = let s = c .before .before .before .before .before .before .before in floored (s .pre .0) (c .before .loop .i) (c .before .loop .inv)
+    (c .loop-test .left)
 
 pub floors-spec : {M : Type 1} → statement M
 floors-spec =

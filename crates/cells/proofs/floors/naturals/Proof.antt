@@ -20,14 +20,16 @@ abbrev μ-loop : tie.MeasureT-loop
 μ-loop vd debits₀ n sum₀ j₀ debits sum j = n - j
 
 -- the debit that the turn reads is a word, and no negative one
-debit : (c : tie.In-loop Inv-loop μ-loop) → let s = c .before .before in let x = getD (s .args .vd .now) (c .before .loop .j) (pos 0) in (dn x ≡ 0) × SFits w64 x
+debit : (c : tie.In-loop Inv-loop μ-loop) → let s = c .before .before in let x = getD (s .args .vd .now) (c .before .loop .j) (pos 0) in (dn x ≡ 0)
+    × SFits w64 x
 debit c =
     let s = c .before .before in
     let l = c .before .loop in
     let z : dn (getD (s .args .vd .now) (l .j) (pos 0)) ≡ 0 = omega (za, s .pre .sign .above (l .j) (c .loop-test .taken)) in
     (z, omega (za, sum-small (s .pre) (l .inv) (c .loop-test .taken)))
 
-size : (c : tie.In-loop Inv-loop μ-loop) → let s = c .before .before in natAbs (back (getD (s .args .vd .now) (c .before .loop .j) (pos 0))) ≡ debitAt (s .args .vd .now) (c .before .loop .j)
+size : (c : tie.In-loop Inv-loop μ-loop) → let s = c .before .before in natAbs (back (getD (s .args .vd .now) (c .before .loop .j) (pos 0)))
+    ≡ debitAt (s .args .vd .now) (c .before .loop .j)
 size c =
     let s = c .before .before in
     let d = debit c in

@@ -12,13 +12,17 @@ abbrev μ-loop : tie.MeasureT-loop
 μ-loop marks wc co i n base best₀ most₀ j₀ best most j = length co - j
 
 loop-again : tie.Need-loop-again Inv-loop μ-loop
-loop-again c = free-better (c .before .before .before .before .before .before .before .before .loop .inv) (c .before .before .before .before .before .before .before .loop-test .taken) (c .before .before .before .before .before .if1 .taken) (c .before .before .before .if2 .taken) (c .before .if3 .taken)
+loop-again c = free-better (c .before .before .before .before .before .before .before .before .loop .inv)
+    (c .before .before .before .before .before .before .before .loop-test .taken) (c .before .before .before .before .before .if1 .taken)
+    (c .before .before .before .if2 .taken) (c .before .if3 .taken)
 
 loop-again-2 : tie.Need-loop-again-2 Inv-loop μ-loop
-loop-again-2 c = free-pass (c .before .before .before .before .before .before .before .loop .inv) (c .before .before .before .before .before .before .loop-test .taken) (λ e o. absurd (omega (arith, c .if3 .left)))
+loop-again-2 c = free-pass (c .before .before .before .before .before .before .before .loop .inv)
+    (c .before .before .before .before .before .before .loop-test .taken) (λ e o. absurd (omega (arith, c .if3 .left)))
 
 loop-again-3 : tie.Need-loop-again-3 Inv-loop μ-loop
-loop-again-3 c = free-pass (c .before .before .before .before .before .loop .inv) (c .before .before .before .before .loop-test .taken) (λ e o. absurd (c .if2 .left e))
+loop-again-3 c = free-pass (c .before .before .before .before .before .loop .inv) (c .before .before .before .before .loop-test .taken)
+    (λ e o. absurd (c .if2 .left e))
 
 loop-again-4 : tie.Need-loop-again-4 Inv-loop μ-loop
 loop-again-4 c = free-pass (c .before .before .before .loop .inv) (c .before .before .loop-test .taken) (λ e o. c .if1 .left)

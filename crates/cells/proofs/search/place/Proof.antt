@@ -15,7 +15,8 @@ abbrev μ-loop : tie.MeasureT-loop
 μ-loop marks₀ wr₀ wc₀ ro₀ co₀ m n i₀ marks wr wc ro co i = m - i + total wr
 
 loop-holds : tie.Need-loop-holds Inv-loop μ-loop
-loop-holds c = let s = c .before .before .before .before .before .args in going-start (s .marks .now) (s .lacks .now) (s .wants .now) (s .rows .now) (s .columns .now)
+loop-holds c = let s = c .before .before .before .before .before .args in going-start (s .marks .now) (s .lacks .now) (s .wants .now) (s .rows .now)
+    (s .columns .now)
 
 slice-read-if1 : tie.Need-slice-read-if1 Inv-loop μ-loop
 slice-read-if1 c = omega (arith, c .before .before .loop .inv .kept .tall, c .before .before .before .before .before .before .before .before .pre .tall)
@@ -36,28 +37,82 @@ visit-row-requires c κs =
     )
 
 mul-lacks : tie.Need-mul-lacks Inv-loop μ-loop
-mul-lacks c = omega (arith, c .before .before .before .before .before .before .before .before .before .before .before .before .before .before .before .before .before .before .before .before .before .before .before, c .before .before .before .before .before .before .before .before .before .before .before .before .before .before .before .before .before .before .before .before .before .before .before .before .before .before .before .before .before .before .good)
+mul-lacks c = omega (
+  arith,
+  c .before .before .before .before .before .before .before .before .before .before .before .before .before .before .before .before
+      .before .before .before .before .before .before .before,
+  c .before .before .before .before .before .before .before .before .before .before .before .before
+      .before .before .before .before .before .before .before .before .before .before .before .before .before .before .before .before .before .before .good,
+)
 
 slice-read-lacks : tie.Need-slice-read-lacks Inv-loop μ-loop
-slice-read-lacks c = omega (arith, c .before .before .before .before .before .before .before .before .before .before .before .before .before .before .before .before .before .before .before .before .before .before .before .before .loop-test .taken, c .before .before .before .before .before .before .before .before .before .before .before .before .before .before .before .before .before .before .before .before .before .before .before .before .before .loop .inv .kept .tall, c .before .before .before .before .before .before .before .before .before .before .before .before .before .before .before .before .before .before .before .before .before .before .before .before .before .before .before .before .before .before .before .pre .tall)
+slice-read-lacks c = omega (
+  arith,
+  c .before .before .before .before .before .before .before .before .before .before .before .before .before .before .before
+      .before .before .before .before .before .before .before .before .before .loop-test .taken,
+  c .before .before .before .before .before .before .before .before .before .before .before .before .before .before .before .before .before .before .before
+      .before .before .before .before .before .before .loop .inv .kept .tall,
+  c .before .before .before .before .before .before .before .before .before .before
+      .before .before .before .before .before .before .before .before .before .before .before .before .before .before .before .before .before .before .before
+      .before .before .pre .tall,
+)
 
 sub-lacks : tie.Need-sub-lacks Inv-loop μ-loop
-sub-lacks c = c .before .before .before .before .before .before .before .before .before .before .before .before .before .before .before .before .before .before .before .before .before .before .if1 .taken
+sub-lacks c = c .before .before .before .before .before .before .before .before .before .before .before .before .before .before .before .before .before .before
+    .before .before .before .before .if1 .taken
 
 slice-write-lacks : tie.Need-slice-write-lacks Inv-loop μ-loop
-slice-write-lacks c = omega (arith, c .before .before .before .before .before .before .before .before .before .before .before .before .before .before .before .before .before .before .before .before .before .before .before .before .loop-test .taken, c .before .before .before .before .before .before .before .before .before .before .before .before .before .before .before .before .before .before .before .before .before .before .before .before .before .loop .inv .kept .tall, c .before .before .before .before .before .before .before .before .before .before .before .before .before .before .before .before .before .before .before .before .before .before .before .before .before .before .before .before .before .before .before .pre .tall)
+slice-write-lacks c = omega (
+  arith,
+  c .before .before .before .before .before .before .before .before .before .before .before .before .before .before .before
+      .before .before .before .before .before .before .before .before .before .loop-test .taken,
+  c .before .before .before .before .before .before .before .before .before .before .before .before .before .before .before .before .before .before .before
+      .before .before .before .before .before .before .loop .inv .kept .tall,
+  c .before .before .before .before .before .before .before .before .before .before
+      .before .before .before .before .before .before .before .before .before .before .before .before .before .before .before .before .before .before .before
+      .before .before .pre .tall,
+)
 
 loop-less : tie.Need-loop-less Inv-loop μ-loop
-loop-less c = let l = c .before .before .before .before .before .before .before .before .before .before .before .before .before .before .before .before .before .before .before .before .before .before .before .before .before .loop in omega (arith, c .before .before .before .before .before .before .before .before .before .before .before .before .before .before .before .before .before .before .before .before .before .before .if1 .taken, total-set (l .lacks) (l .i) (getD (l .lacks) (l .i) 0 - 1) (omega (arith, c .before .before .before .before .before .before .before .before .before .before .before .before .before .before .before .before .before .before .before .before .before .before .before .before .loop-test .taken, c .before .before .before .before .before .before .before .before .before .before .before .before .before .before .before .before .before .before .before .before .before .before .before .before .before .loop .inv .kept .tall, c .before .before .before .before .before .before .before .before .before .before .before .before .before .before .before .before .before .before .before .before .before .before .before .before .before .before .before .before .before .before .before .pre .tall)))
+loop-less c = let l = c .before .before .before .before .before .before .before .before .before .before .before .before .before .before .before .before .before
+    .before .before .before .before .before .before .before .before .loop in omega (
+      arith,
+      c .before .before .before .before .before .before .before .before .before .before .before .before .before .before .before .before .before .before .before
+          .before .before .before .if1 .taken,
+      total-set (l .lacks) (l .i) (getD (l .lacks) (l .i) 0 - 1)
+          (omega (
+            arith,
+            c .before .before .before .before .before .before .before .before .before .before .before .before .before .before .before .before .before
+                .before .before .before .before .before .before .before .loop-test .taken,
+            c .before .before .before .before .before .before .before .before .before .before
+                .before .before .before .before .before .before .before .before .before .before .before .before .before .before .before .loop .inv .kept .tall,
+            c .before .before .before .before .before .before .before .before .before .before .before .before .before .before .before .before .before .before .before
+                .before .before .before .before .before .before .before .before .before .before .before .before .pre .tall,
+          )),
+    )
 
 loop-again : tie.Need-loop-again Inv-loop μ-loop
 loop-again c =
-    let l = c .before .before .before .before .before .before .before .before .before .before .before .before .before .before .before .before .before .before .before .before .before .before .before .before in
+    let l = c .before .before .before .before .before .before .before .before .before .before .before .before .before .before .before .before .before .before
+    .before .before .before .before .before .before in
     let p = l .before .before .before .before .before .before .before .pre in
     let v = c .before .before .before .before .before .before .before .before .before .visit-row in
-    let r = c .before .before .before .before .before .before .before .before .before .before .before .before .before .before .before .before .before .before .before .before .reopen in
+    let r = c .before .before .before .before .before .before .before .before .before .before .before .before .before .before .before .before .before .before
+    .before .before .reopen in
     let o = c .before .before .before .before .before .before .before .before .before .before .before .before .before .before .before .before .reopen2 in
-    going-on (l .before .loop .inv) (p .feasible) (p .small) (l .loop-test .taken) (omega (arith, c .before .before .before .before .before .before .before .before .before .before .before .before .before .before .before .before .before .before .before .before .before .before .before .before .loop-test .taken, c .before .before .before .before .before .before .before .before .before .before .before .before .before .before .before .before .before .before .before .before .before .before .before .before .before .loop .inv .kept .tall, c .before .before .before .before .before .before .before .before .before .before .before .before .before .before .before .before .before .before .before .before .before .before .before .before .before .before .before .before .before .before .before .pre .tall)) (c .before .before .before .before .before .before .before .before .before .before .before .before .before .before .before .before .before .before .before .before .before .before .if1 .taken) (r .kept .0) (o .kept .0) (r .ensures) (o .ensures) (v .result) (v .ensures) (v .kept .0) (v .kept .1 .0) (v .kept .1 .1 .0) (v .kept .1 .1 .1 .0)
+    going-on (l .before .loop .inv) (p .feasible) (p .small) (l .loop-test .taken)
+    (omega (
+      arith,
+      c .before .before .before .before .before .before .before .before .before .before .before .before .before .before .before .before .before
+          .before .before .before .before .before .before .before .loop-test .taken,
+      c .before .before .before .before .before .before .before .before .before .before .before .before .before .before .before .before .before .before
+          .before .before .before .before .before .before .before .loop .inv .kept .tall,
+      c .before .before .before .before .before .before .before .before .before .before .before .before .before .before .before .before .before .before
+          .before .before .before .before .before .before .before .before .before .before .before .before .before .pre .tall,
+    ))
+    (c .before .before .before .before .before .before .before .before .before .before .before .before .before .before .before .before .before .before
+    .before .before .before .before .if1 .taken) (r .kept .0) (o .kept .0) (r .ensures) (o .ensures) (v .result) (v .ensures) (v .kept .0) (v .kept .1 .0)
+    (v .kept .1 .1 .0) (v .kept .1 .1 .1 .0)
 
 loop-again-2 : tie.Need-loop-again-2 Inv-loop μ-loop
 loop-again-2 c = going-past (c .before .before .before .loop .inv) (c .before .before .loop-test .taken) (omega arith)

@@ -23,7 +23,8 @@ returns c =
     let l = c .before .loop in
     let s = c .before .before .args .all .now in
     let e : l .i ≡ length s = omega arith in
-    l .inv .2 ∙ ap (λ (t : List ℕ). replicate (l .i) 1 ++ t) (drop-of-length-le s {i = l .i} (omega arith)) ∙ append-nil (replicate (l .i) 1) ∙ ap (λ (k : ℕ). replicate k 1) e
+    l .inv .2 ∙ ap (λ (t : List ℕ). replicate (l .i) 1 ++ t) (drop-of-length-le s {i = l .i} (omega arith)) ∙ append-nil (replicate (l .i) 1)
+    ∙ ap (λ (k : ℕ). replicate k 1) e
 
 pub reopen-spec : {M : Type 1} → statement M
 reopen-spec =

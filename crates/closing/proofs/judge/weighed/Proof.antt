@@ -62,7 +62,8 @@ month-asked :
     → let d = c .before .before .before .before .before .before in
     let s = d .before .before in
     Passed s st line points
-    → Month (users s) (firstUses (users s) (s .args .s)) (firstOverruns (users s) (s .args .s)) (toZ w64 (ofZ w64 (d .pv-total .result))) (held s) st (lines s st line points)
+    → Month (users s) (firstUses (users s) (s .args .s)) (firstOverruns (users s) (s .args .s)) (toZ w64 (ofZ w64 (d .pv-total .result))) (held s) st
+    (lines s st line points)
 month-asked c t =
     let d = c .before .before .before .before .before .before in
     let f : SFits w64 (d .pv-total .result) = search needs in
@@ -100,7 +101,8 @@ returns c st line points t =
     refuses _ (c .refused .ensures) (weights-refused t _ (weights-told d) (ap verdictOf (c .before .before .verdict .given .1)))
 
 returns-2 : tie.Need-returns-2
-returns-2 c st line points t = refuses _ (c .refused2 .ensures) (sym (ap verdictOf (c .before .before .last .given .1)) ∙ debits-told (c .before .before .before .before) t)
+returns-2 c st line points t = refuses _ (c .refused2 .ensures) (sym (ap verdictOf (c .before .before .last .given .1))
+    ∙ debits-told (c .before .before .before .before) t)
 
 returns-3 : tie.Need-returns-3
 returns-3 c st line points t =

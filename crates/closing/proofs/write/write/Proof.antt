@@ -27,7 +27,8 @@ arrays : (s : tie.Start) → (length (s .args .bills .debits) ≡ 512) × (lengt
 arrays s = (search needs, search needs)
 
 abbrev MayWrite : tie.Start → State → Verdict → Lines → Type 0
-MayWrite s st short l = Writable (s .args .bills) (s .args .line) (s .args .agents .now) (s .args .held .now) (s .args .cells .now) (s .args .work .now) st short l
+MayWrite s st short l = Writable (s .args .bills) (s .args .line) (s .args .agents .now) (s .args .held .now) (s .args .cells .now)
+    (s .args .work .now) st short l
 
 abbrev start : tie.After-vcs → tie.Start
 start c = c .before .before .before .before .before .before
@@ -66,13 +67,16 @@ fill-requires c κs =
     asked w (first-payees w e _ ∙ e) (first-debits w)
 
 array-share-prefix-credits : tie.Need-array-share-prefix-credits
-array-share-prefix-credits c = let s = start (c .before .before .before .before .before .before .before .before .before) in omega (arith, arrays s, few-users (s .pre .3))
+array-share-prefix-credits c = let s = start (c .before .before .before .before .before .before .before .before .before) in
+    omega (arith, arrays s, few-users (s .pre .3))
 
 slice-aggregate-copy : tie.Need-slice-aggregate-copy
-slice-aggregate-copy c = let s = start (c .before .before .before .before .before .before .before .before .before .before) in simp length-take (omega (arith, arrays s, few-users (s .pre .3)))
+slice-aggregate-copy c = let s = start (c .before .before .before .before .before .before .before .before .before .before) in
+    simp length-take (omega (arith, arrays s, few-users (s .pre .3)))
 
 copy-requires : tie.Need-copy-requires
-copy-requires c κs = let s = start (c .before .before .before .before .before .before .before .before .before .before .before) in simp length-take (omega (arith, arrays s, few-users (s .pre .3)))
+copy-requires c κs = let s = start (c .before .before .before .before .before .before .before .before .before .before .before) in
+    simp length-take (omega (arith, arrays s, few-users (s .pre .3)))
 
 returns : tie.Need-returns
 returns c st short l w =

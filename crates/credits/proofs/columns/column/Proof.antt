@@ -35,7 +35,8 @@ loop-again c =
     let b = c .before .before .before .loop in
     let f : SFits w64 (getD (getD (s .args .agents .now) (b .i) []) (s .args .k) (pos 0)) = search needs in
     rw (toZ-ofZ f)
-    (filling-more (same s) (b .inv) (pos 0) (omega (arith, s .pre .1)) (sym (getD-map _ (s .args .agents .now) (b .i) [] (pos 0) (c .before .before .loop-test .taken))))
+    (filling-more (same s) (b .inv) (pos 0) (omega (arith, s .pre .1)) (sym (getD-map _ (s .args .agents .now) (b .i) [] (pos 0)
+    (c .before .before .loop-test .taken))))
 
 returns : tie.Need-returns Inv-loop μ-loop
 returns c = let s = c .before .before in filling-all (same s) (c .before .loop .inv) (omega (arith, s .pre .1))

@@ -48,9 +48,15 @@ module _ (c : tie.After-out2 Inv-loop μ-loop) where
   part-fits = omega (za, s .pre .0 .small i (c .before .before .loop-test .taken))
 
   sum-fits : SFits w64 (getD (s .args .out .now) i (pos 0) +ℤ getD (s .args .parts .now) i (pos 0))
-  sum-fits = omega (za, s .pre .1 .small i inside, s .pre .0 .small i (c .before .before .loop-test .taken), add# (getD (s .args .out .now) i (pos 0)) (getD (s .args .parts .now) i (pos 0)))
+  sum-fits = omega (
+    za,
+    s .pre .1 .small i inside,
+    s .pre .0 .small i (c .before .before .loop-test .taken),
+    add# (getD (s .args .out .now) i (pos 0)) (getD (s .args .parts .now) i (pos 0)),
+  )
 
-  sum-is : getD (s .args .out .now) i (pos 0) +ℤ getD (s .args .parts .now) i (pos 0) ≡ getD (sideBySide _+ℤ_ (s .args .out .now) (s .args .parts .now)) i (pos 0)
+  sum-is : getD (s .args .out .now) i (pos 0) +ℤ getD (s .args .parts .now) i (pos 0)
+      ≡ getD (sideBySide _+ℤ_ (s .args .out .now) (s .args .parts .now)) i (pos 0)
   sum-is = sym (getD-sideBySide _+ℤ_ (s .args .out .now) (s .args .parts .now) i (pos 0) (pos 0) (pos 0) (sym (s .pre .2)) inside)
 
 loop-again : tie.Need-loop-again Inv-loop μ-loop

@@ -77,7 +77,8 @@ fill-requires c κs =
     rw (toZ-ofZ (balance-fits b), balance-is b, toZ-ofZ (weight-fits t), t .pb-total .ensures, t .before .before .pbs .ensures)
     (fillable (p s) (rw length-map (s .pre .2)))
 
-parts-are : (c : tie.After-fill) → let s = c .before .before .before .before .before .before .before .before .before .before .before .before .before .before in c .fill .last .1 .1 .1 .0 ≡ VMANTsFrom (s .args .debits) (s .args .line) (lines s)
+parts-are : (c : tie.After-fill) → let s = c .before .before .before .before .before .before .before .before .before .before .before .before .before .before in
+    c .fill .last .1 .1 .1 .0 ≡ VMANTsFrom (s .args .debits) (s .args .line) (lines s)
 unfolding VMANTsFrom
 parts-are c =
     let t = c .before .before .before in

@@ -36,7 +36,8 @@ returns c =
     let e = rw (toZ-ofZ (s .fits .debits)) at (d .agent-credits .ensures .VCs) in
     let f : SFits w64 (s .args .line .ons) = search needs in
     rw (toZ-ofZ f)
-    (set-last (d .agent-credits .last .1 .1 .1 .1 .1 .0) (s .args .vc .now) _ (s .args .line .ons) (s .pre .1) (k ∙ length-take-le _ _ (omega arith)) ∙ ap (λ (l : List ℤ). l ++ s .args .line .ons ∷ []) e)
+    (set-last (d .agent-credits .last .1 .1 .1 .1 .1 .0) (s .args .vc .now) _ (s .args .line .ons) (s .pre .1) (k ∙ length-take-le _ _ (omega arith))
+    ∙ ap (λ (l : List ℤ). l ++ s .args .line .ons ∷ []) e)
 
 pub vcs-spec : {M : Type 1} → statement M
 vcs-spec =

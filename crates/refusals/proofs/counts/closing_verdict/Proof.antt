@@ -12,7 +12,8 @@ use Rattle.rules.proofs.Passed.{counts}
 use Rattle.refusals.proofs.counts.closing_verdict.Statement.{statement}
 use Rattle.refusals.proofs.counts.closing_verdict.Tie as tie
 
-counted : (c : tie.Else1) (credits : List ℤ) → let a = c .before .before .args in badCounts (stateOf (a .ledger) credits) (a .users) (a .agents) (a .points) ≡ false
+counted : (c : tie.Else1) (credits : List ℤ) → let a = c .before .before .args in
+    badCounts (stateOf (a .ledger) credits) (a .users) (a .agents) (a .points) ≡ false
 counted c credits = sym (c .before .bad-counts .ensures credits) ∙ c .if1 .left
 
 returns : tie.Need-returns

@@ -23,7 +23,8 @@ abbrev μ-loop : tie.MeasureT-loop
 μ-loop credits i₀ i = length credits - i
 
 -- what the test of line i said
-tested : (c : tie.After-outside Inv-loop μ-loop) → let b = c .before .before .before in c .outside .result ≡ outside (pos 0) (pos 100000000000000000) (getD (b .before .args .credits .now) (b .loop .i) (pos 0))
+tested : (c : tie.After-outside Inv-loop μ-loop) → let b = c .before .before .before in
+    c .outside .result ≡ outside (pos 0) (pos 100000000000000000) (getD (b .before .args .credits .now) (b .loop .i) (pos 0))
 tested c =
     let b = c .before .before .before in
     let f : SFits w64 (getD (b .before .args .credits .now) (b .loop .i) (pos 0)) = search needs in
@@ -32,12 +33,16 @@ tested c =
 returns : tie.Need-returns Inv-loop μ-loop
 returns c =
     let b = c .before .before .before .before in
-    sym (line-refused creditTest _ (pos 0) (omega arith) (b .loop .inv .1) (ap (λ (t : Bool). when t 4 (b .loop .i + 1)) (sym (tested (c .before)) ∙ c .if1 .taken)))
+    sym (line-refused creditTest _ (pos 0) (omega arith) (b .loop .inv .1) (ap (λ (t : Bool). when t 4 (b .loop .i + 1)) (sym (tested (c .before))
+    ∙ c .if1 .taken)))
 
 loop-again : tie.Need-loop-again Inv-loop μ-loop
 loop-again c =
-    let b = c .before .before .before .before in
-    (omega arith, line-past creditTest _ (pos 0) (omega arith) (b .loop .inv .1) (ap (λ (t : Bool). when t 4 (b .loop .i + 1)) (sym (tested (c .before)) ∙ c .if1 .left)))
+    let b = c .before .before .before .before in (
+      omega arith,
+      line-past creditTest _ (pos 0) (omega arith) (b .loop .inv .1) (ap (λ (t : Bool). when t 4 (b .loop .i + 1)) (sym (tested (c .before))
+          ∙ c .if1 .left)),
+    )
 
 returns-2 : tie.Need-returns-2 Inv-loop μ-loop
 returns-2 c = sym (all-past creditTest _ (c .loop-test .left) (c .before .loop .inv .1))

@@ -33,8 +33,11 @@ returns c =
 
 loop-again : tie.Need-loop-again Inv-loop μ-loop
 loop-again c =
-    let b = c .before .before .before .before in
-    (omega arith, line-past test _ _ (omega arith) (b .loop .inv .1) (ap (λ (t : Bool). when t 5 (b .loop .i + 1)) (sym (c .before .bad-user .ensures) ∙ c .if1 .left)))
+    let b = c .before .before .before .before in (
+      omega arith,
+      line-past test _ _ (omega arith) (b .loop .inv .1) (ap (λ (t : Bool). when t 5 (b .loop .i + 1)) (sym (c .before .bad-user .ensures)
+          ∙ c .if1 .left)),
+    )
 
 returns-2 : tie.Need-returns-2 Inv-loop μ-loop
 returns-2 c = sym (each-map userTest userOf 1 _ ∙ all-past test _ (c .loop-test .left) (c .before .loop .inv .1))

@@ -19,7 +19,8 @@ range-fine : (c : tie.Else1) → badPoint (c .before .before .args .p) ≡ false
 range-fine c = sym (c .before .bad-point .ensures) ∙ c .if1 .left
 
 -- the test of 6, at the user lines as the definition has them
-tested : (c : tie.After-outside) → let s = c .before .before .before .before in c .outside .result ≡ outside (pos 1) (pos (length (map userOf (s .args .users .now)))) (s .args .p .user)
+tested : (c : tie.After-outside) → let s = c .before .before .before .before in c .outside .result
+    ≡ outside (pos 1) (pos (length (map userOf (s .args .users .now)))) (s .args .p .user)
 tested c =
     let s = c .before .before .before .before in
     let f : SFits w64 (s .args .p .user) = search needs in
@@ -29,14 +30,16 @@ tested c =
 returns-2 : tie.Need-returns-2
 returns-2 c = rw (range-fine (c .before .before .before), sym (tested (c .before)) ∙ c .if2 .taken)
 
-kind-told : (c : tie.After-unfit-point) → let s = c .before .before .before .before .before .before .before .before in c .unfit-point .result ≡ unfitPoint (kindOf (map userOf (s .args .users .now)) (s .args .p .user)) (s .args .p)
+kind-told : (c : tie.After-unfit-point) → let s = c .before .before .before .before .before .before .before .before in
+    c .unfit-point .result ≡ unfitPoint (kindOf (map userOf (s .args .users .now)) (s .args .p .user)) (s .args .p)
 kind-told c =
     let s = c .before .before .before .before .before .before .before .before in
     let f : SFits w64 (s .args .p .user) = search needs in
     let g : SFits w64 (c .before .kind-of .result) = search needs in
     rw (simp (toZ-ofZ, f) at (c .before .kind-of .ensures)) at (simp (toZ-ofZ, g) at (c .unfit-point .ensures))
 
-user-fine : (c : tie.Else2) → let s = c .before .before .before .before .before in outside (pos 1) (pos (length (map userOf (s .args .users .now)))) (s .args .p .user) ≡ false
+user-fine : (c : tie.Else2) → let s = c .before .before .before .before .before in
+    outside (pos 1) (pos (length (map userOf (s .args .users .now)))) (s .args .p .user) ≡ false
 user-fine c = sym (tested (c .before)) ∙ c .if2 .left
 
 returns-3 : tie.Need-returns-3

@@ -14,7 +14,8 @@ abbrev μ-loop : tie.MeasureT-loop
 μ-loop month agents users table told i₀ i = agents - i
 
 -- an agent's row lies in the table
-inside : (c : tie.In-loop Inv-loop μ-loop) → c .before .loop .i * c .before .before .before .args .users + c .before .before .before .args .users ≤ length (c .before .before .before .args .table .now)
+inside : (c : tie.In-loop Inv-loop μ-loop) → c .before .loop .i * c .before .before .before .args .users + c .before .before .before .args .users
+    ≤ length (c .before .before .before .args .table .now)
 inside c = omega (arith, mul-le-mul-right (c .before .before .before .args .users) (c .loop-test .taken))
 
 mul-from : tie.Need-mul-from Inv-loop μ-loop

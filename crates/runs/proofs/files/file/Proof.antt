@@ -27,7 +27,8 @@ counts c = begun-counts (began c .read-and-open .ensures) (c .begun2 .given .1)
 close-file-requires : tie.Need-close-file-requires
 close-file-requires c κs =
     let d = c .before .before .before .before .before .before .before in
-    lies (counts d) (same-buffers (start d .pre) (search needs) (search needs) (search needs) (search needs) (search needs)) (search needs) (search needs) (search needs)
+    lies (counts d) (same-buffers (start d .pre) (search needs) (search needs) (search needs) (search needs) (search needs)) (search needs) (search needs)
+    (search needs)
 
 returns-2 : tie.Need-returns-2
 returns-2 c =

@@ -30,7 +30,16 @@ loop-less c =
     let f = stepped (file-of c .file .ensures) (c .before .before .step .given .1) in omega arith
 
 loop-again : tie.Need-loop-again Inv-loop μ-loop
-loop-again c = (same-buffers (file-of c .before .before .before .before .before .before .before .loop .inv .0) (search needs) (search needs) (search needs) (search needs) (search needs), search needs, search needs, search needs, search needs, search needs, search needs)
+loop-again c = (
+  same-buffers (file-of c .before .before .before .before .before .before .before .loop .inv .0) (search needs) (search needs) (search needs)
+      (search needs) (search needs),
+  search needs,
+  search needs,
+  search needs,
+  search needs,
+  search needs,
+  search needs,
+)
 
 pub files-spec : {M : Type 1} → statement M
 files-spec =

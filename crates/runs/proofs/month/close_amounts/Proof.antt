@@ -16,7 +16,8 @@ slice-aggregate-state-and-close-3 : tie.Need-slice-aggregate-state-and-close-3
 slice-aggregate-state-and-close-3 c = sym (length-take-le _ _ (search needs))
 
 state-and-close-requires : tie.Need-state-and-close-requires
-state-and-close-requires c κs = first-rows _ _ _ (c .before .before .before .before .before .before .before .before .pre) (search needs) (search needs) (search needs)
+state-and-close-requires c κs = first-rows _ _ _ (c .before .before .before .before .before .before .before .before .pre) (search needs) (search needs)
+    (search needs)
 
 pub close-amounts-spec : {M : Type 1} → statement M
 close-amounts-spec =

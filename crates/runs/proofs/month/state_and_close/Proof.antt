@@ -6,8 +6,10 @@ use Rattle.runs.proofs.month.state_and_close.Tie as tie
 
 print-amounts-requires : tie.Need-print-amounts-requires
 print-amounts-requires c κs =
-    let s = c .before .before .before .before .before .before .before .before .before .before .before .before .before .before .before .before .before .before .before .before .before .before .before .before in
-    let k = c .before .before .before .before .before .before .before .before .before .before .before .before .before .before .before .before .before .state-lines .kept in
+    let s = c .before .before .before .before .before .before .before .before .before .before .before .before .before .before .before .before .before .before
+    .before .before .before .before .before .before in
+    let k = c .before .before .before .before .before .before .before .before .before .before .before .before .before .before .before .before .before
+    .state-lines .kept in
     same-rows (s .pre) (search (needs, k)) (search (needs, k)) (search (needs, k)) (search needs)
 
 pub state-and-close-spec : {M : Type 1} → statement M

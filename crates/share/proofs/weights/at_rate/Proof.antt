@@ -11,7 +11,8 @@ use Rattle.share.proofs.weights.at_rate.Statement.{statement}
 use Rattle.share.proofs.weights.at_rate.Tie as tie
 
 -- the part's quotient and remainder
-part : (c : tie.After-part-at) → let s = c .before .before .before .before in let d = c .part-at .result in (d .quot * s .args .w + d .rem ≡ s .args .k .part * s .args .t) × (d .rem < s .args .w)
+part : (c : tie.After-part-at) → let s = c .before .before .before .before in let d = c .part-at .result in
+    (d .quot * s .args .w + d .rem ≡ s .args .k .part * s .args .t) × (d .rem < s .args .w)
 part c =
     let s = c .before .before .before .before in
     let a = s .args in
@@ -22,7 +23,8 @@ returns : tie.Need-returns
 returns c =
     let a = c .before .before .before .before .before .args in
     let m = c .before .before .before .before .multiply .ensures in
-    let e : c .before .before .before .before .multiply .result .low ≡ a .k .size * a .t = one-word (a .k .size * a .t) (ap (λ (n : Words). n .high) (sym m) ∙ c .before .before .if1 .taken) (ap (λ (n : Words). n .low) m) in
+    let e : c .before .before .before .before .multiply .result .low ≡ a .k .size * a .t = one-word (a .k .size * a .t) (ap (λ (n : Words). n .high) (sym m)
+    ∙ c .before .before .if1 .taken) (ap (λ (n : Words). n .low) m) in
     ap (λ (n : ℕ). divided n (a .w)) e
 
 mul-t9 : tie.Need-mul-t9
@@ -37,7 +39,12 @@ add-t10 c =
     let s = c .before .before .before .before .before .before in
     let k = s .args .k in
     let R = s .pre .0 in
-    omega (arith, share-le (k .size) (k .whole) (k .part) (s .args .w) (s .args .t) (c .before .before .part-at .result .quot) (omega (arith, R .less)) (s .pre .1) (R .sum) (omega (arith, part (c .before .before) .0)), R .most)
+    omega (
+      arith,
+      share-le (k .size) (k .whole) (k .part) (s .args .w) (s .args .t) (c .before .before .part-at .result .quot) (omega (arith, R .less))
+          (s .pre .1) (R .sum) (omega (arith, part (c .before .before) .0)),
+      R .most,
+    )
 
 returns-2 : tie.Need-returns-2
 returns-2 c =

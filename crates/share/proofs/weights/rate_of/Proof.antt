@@ -16,7 +16,8 @@ returns c =
     let a = c .before .args in
     let z = c .before .pre .0 in
     let e = c .scaled .ensures in
-    let q : c .scaled .result .quot * a .w + c .scaled .result .rem ≡ 9223372036854775808 * (a .size % a .w) = rw e (div-add-mod' (9223372036854775808 * (a .size % a .w)) (a .w)) in
+    let q : c .scaled .result .quot * a .w + c .scaled .result .rem ≡ 9223372036854775808 * (a .size % a .w) = rw e
+    (div-add-mod' (9223372036854775808 * (a .size % a .w)) (a .w)) in
     let l : c .scaled .result .rem < a .w = rw e (mod-lt (9223372036854775808 * (a .size % a .w)) z) in (
       record {
         sum = sym (div-add-mod' (a .size) (a .w));

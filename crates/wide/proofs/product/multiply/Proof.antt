@@ -101,17 +101,31 @@ mul-add-2 : tie.Need-mul-add-2
 mul-add-2 c = omega (arith, half-product (c .before .before .high-half .result) (c .before .low-half2 .result) (omega arith) (omega arith))
 
 mul-add-3 : tie.Need-mul-add-3
-mul-add-3 c = omega (arith, half-product (c .before .before .before .before .low-half .result) (c .before .before .low-half2 .result) (omega arith) (omega arith))
+mul-add-3 c = omega (
+  arith,
+  half-product (c .before .before .before .before .low-half .result) (c .before .before .low-half2 .result) (omega arith)
+      (omega arith),
+)
 
 mul-t9 : tie.Need-mul-t9
-mul-t9 c = omega (arith, half-product (c .before .before .before .before .before .high-half .result) (c .before .before .before .high-half2 .result) (omega arith) (omega arith))
+mul-t9 c = omega (
+  arith,
+  half-product (c .before .before .before .before .before .high-half .result) (c .before .before .before .high-half2 .result)
+      (omega arith) (omega arith),
+)
 
 add-t11 : tie.Need-add-t11
 add-t11 c =
     let n = c .before .before .before in
     let h = n .before in
     let s = h .before .before .before .before in
-    simp (n .add .ensures, h .high-half2 .ensures, h .before .low-half2 .ensures, h .before .before .high-half .ensures, h .before .before .before .low-half .ensures)
+    simp (
+      n .add .ensures,
+      h .high-half2 .ensures,
+      h .before .low-half2 .ensures,
+      h .before .before .high-half .ensures,
+      h .before .before .before .low-half .ensures,
+    )
     (record { fits = two-of-four _ _ _ _ _ (high-word (s .args .a) (s .args .b) (s .fits .a .fits) (s .fits .b .fits)) })
 
 add-t13 : tie.Need-add-t13
@@ -119,7 +133,14 @@ add-t13 c =
     let n = c .before .before .before .before in
     let h = n .before in
     let s = h .before .before .before .before in
-    simp (c .high-half3 .ensures, n .add .ensures, h .high-half2 .ensures, h .before .low-half2 .ensures, h .before .before .high-half .ensures, h .before .before .before .low-half .ensures)
+    simp (
+      c .high-half3 .ensures,
+      n .add .ensures,
+      h .high-half2 .ensures,
+      h .before .low-half2 .ensures,
+      h .before .before .high-half .ensures,
+      h .before .before .before .low-half .ensures,
+    )
     (record { fits = three-of-four _ _ _ _ _ (high-word (s .args .a) (s .args .b) (s .fits .a .fits) (s .fits .b .fits)) })
 
 add-t14 : tie.Need-add-t14
@@ -128,7 +149,15 @@ add-t14 c =
     let n = d .before .before .before .before in
     let h = n .before in
     let s = h .before .before .before .before in
-    simp (d .high-half3 .ensures, d .before .before .add2 .ensures, n .add .ensures, h .high-half2 .ensures, h .before .low-half2 .ensures, h .before .before .high-half .ensures, h .before .before .before .low-half .ensures)
+    simp (
+      d .high-half3 .ensures,
+      d .before .before .add2 .ensures,
+      n .add .ensures,
+      h .high-half2 .ensures,
+      h .before .low-half2 .ensures,
+      h .before .before .high-half .ensures,
+      h .before .before .before .low-half .ensures,
+    )
     (record { fits = high-word (s .args .a) (s .args .b) (s .fits .a .fits) (s .fits .b .fits) })
 
 returns : tie.Need-returns
@@ -139,8 +168,17 @@ returns c =
     let s = h .before .before .before .before in
     let a = s .args .a in
     let b = s .args .b in
-    simp (d .high-half3 .ensures, d .before .before .add2 .ensures, n .add .ensures, h .high-half2 .ensures, h .before .low-half2 .ensures, h .before .before .high-half .ensures, h .before .before .before .low-half .ensures)
-    (words-is (high (top a b) (across a b) (bottom a b)) (column (across a b) (bottom a b) % 2 ^ 64) (a * b) (whole a b (s .fits .a .fits) (s .fits .b .fits)) (mod-lt _ (pow-pos 64)))
+    simp (
+      d .high-half3 .ensures,
+      d .before .before .add2 .ensures,
+      n .add .ensures,
+      h .high-half2 .ensures,
+      h .before .low-half2 .ensures,
+      h .before .before .high-half .ensures,
+      h .before .before .before .low-half .ensures,
+    )
+    (words-is (high (top a b) (across a b) (bottom a b)) (column (across a b) (bottom a b) % 2 ^ 64) (a * b) (whole a b (s .fits .a .fits) (s .fits .b .fits))
+    (mod-lt _ (pow-pos 64)))
 
 pub multiply-spec : {M : Type 1} → statement M
 multiply-spec =

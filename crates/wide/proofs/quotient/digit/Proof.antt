@@ -66,7 +66,8 @@ below : (v p m : ℕ) → m < p → p - m ≤ v → v - (p - m) < v
 below v p m l k = omega arith
 
 -- at a place of the code
-step : (c : tie.Start) → Step (c .args .h) (c .args .d) (c .args .v) (c .args .v / 2 ^ 29) (bitAnd (c .args .v) 536870911) (c .args .h / (c .args .v / 2 ^ 29)) (c .args .h % (c .args .v / 2 ^ 29))
+step : (c : tie.Start) → Step (c .args .h) (c .args .d) (c .args .v) (c .args .v / 2 ^ 29) (bitAnd (c .args .v) 536870911) (c .args .h / (c .args .v / 2 ^ 29))
+    (c .args .h % (c .args .v / 2 ^ 29))
 step c =
     let a = c .args in
     let k : 0 < a .v / 2 ^ 29 = omega arith in

@@ -1,7 +1,8 @@
 -- Moved up by s, divisor and dividend are both times S = 2^s: the quotient stays, and the remainder is times S too.
 use Prim.Native.Nat.{ℕ, suc, _+_, _*_, _-_, _/_, _%_, _^_, _≤_, _<_}
 use native.Mathlib.Omega.{arith}
-use native.Mathlib.Nat.{mul-le-mul-right, mul-lt-mul-of-pos-right, lt-trans, div-add-mod', mod-lt, mod-eq-of-lt, div-lt-iff-lt-mul, mul-add-div-right, mul-div-cancel}
+use native.Mathlib.Nat.{mul-le-mul-right, mul-lt-mul-of-pos-right, lt-trans, div-add-mod', mod-lt}
+use native.Mathlib.Nat.{mod-eq-of-lt, div-lt-iff-lt-mul, mul-add-div-right, mul-div-cancel}
 use mathlib.Core.Path.{_≡_, sym, ap, _∙_, subst}
 use lib.Arith.{digits-mod}
 use lib.Count.{leadingZeros, leading-top}

@@ -60,7 +60,8 @@ first c = divides (positive (c .before .before .args .v) (c .before .before .pre
 first-lt : (c : tie.After-two-digits2) → c .two-digits2 .result .quot < 2 ^ 58
 first-lt c =
     let s = c .before .before in
-    quot-lt (2 ^ 58) (positive (s .args .v) (s .pre .0)) (c .two-digits2 .ensures) (most-lt (s .args .high) (s .args .low) (s .args .v) (s .pre .1) (s .fits .low .fits))
+    quot-lt (2 ^ 58) (positive (s .args .v) (s .pre .0)) (c .two-digits2 .ensures)
+    (most-lt (s .args .high) (s .args .low) (s .args .v) (s .pre .1) (s .fits .low .fits))
 
 mul-two-digits-2 : tie.Need-mul-two-digits-2
 mul-two-digits-2 c = omega (arith, and-mask (c .before .before .two-digits2 .result .rem) 52)
@@ -79,7 +80,8 @@ second-lt : (c : tie.After-two-digits3) → c .two-digits3 .result .quot < 2 ^ 6
 second-lt c =
     let d = c .before .before .before in
     let s = d .before .before in
-    quot-lt (2 ^ 6) (positive (s .args .v) (s .pre .0)) (c .two-digits3 .ensures) (left-lt (d .two-digits2 .result .rem) (s .args .low) (s .args .v) (first d .small))
+    quot-lt (2 ^ 6) (positive (s .args .v) (s .pre .0)) (c .two-digits3 .ensures)
+    (left-lt (d .two-digits2 .result .rem) (s .args .low) (s .args .v) (first d .small))
 
 add-t15 : tie.Need-add-t15
 add-t15 c = fits-cat 58 6 tt (first-lt (c .before .before .before .before .before)) (second-lt (c .before .before))
@@ -93,7 +95,8 @@ returns-2 c =
     let r = d .two-digits2 .result .rem in
     let t = divides z (e .two-digits3 .ensures) in
     divided-is _ (s .args .v) _ (s .args .high * 2 ^ 64 + s .args .low)
-    (next-digits 64 (s .args .v) (s .args .high * 2 ^ 58 + s .args .low / 64) (bitAnd (s .args .low) 63) _ _ _ _ (first d .whole) (t .whole ∙ left r (s .args .low)) ∙ both (s .args .high) (s .args .low))
+    (next-digits 64 (s .args .v) (s .args .high * 2 ^ 58 + s .args .low / 64) (bitAnd (s .args .low) 63) _ _ _ _ (first d .whole) (t .whole
+    ∙ left r (s .args .low)) ∙ both (s .args .high) (s .args .low))
     (t .small)
 
 pub normal-spec : {M : Type 1} → statement M

@@ -31,7 +31,8 @@ first-lt c =
     let p = c .before .pre in
     quot-lt (2 ^ 29) (positive (a .v) (p .0)) (c .digit .ensures) (dividend-lt (a .x) (a .n / 2 ^ 29) (a .v) (p .1) (omega (arith, p .2)))
 
-second : (c : tie.After-digit2) → let a = c .before .before .args in Divides (c .before .digit .result .rem * 2 ^ 29 + bitAnd (a .n) 536870911) (a .v) (c .digit2 .result)
+second : (c : tie.After-digit2) → let a = c .before .before .args in Divides (c .before .digit .result .rem * 2 ^ 29 + bitAnd (a .n) 536870911) (a .v)
+    (c .digit2 .result)
 second c = divides (positive (c .before .before .args .v) (c .before .before .pre .0)) (c .digit2 .ensures)
 
 second-lt : (c : tie.After-digit2) → c .digit2 .result .quot < 2 ^ 29
@@ -54,7 +55,8 @@ returns c =
     let d = c .before .before in
     let a = d .before .before .args in
     divided-is _ (a .v) _ (a .x * 2 ^ 58 + a .n)
-    (next-digits (2 ^ 29) (a .v) (a .x * 2 ^ 29 + a .n / 2 ^ 29) (bitAnd (a .n) 536870911) _ _ _ _ (first (d .before) .whole) (second d .whole) ∙ joined (a .x) (a .n))
+    (next-digits (2 ^ 29) (a .v) (a .x * 2 ^ 29 + a .n / 2 ^ 29) (bitAnd (a .n) 536870911) _ _ _ _ (first (d .before) .whole) (second d .whole)
+    ∙ joined (a .x) (a .n))
     (second d .small)
 
 pub two-digits-spec : {M : Type 1} → statement M
