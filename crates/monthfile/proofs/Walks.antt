@@ -11,7 +11,7 @@ use lib.Dec.{T as T′}
 use lib.ListN.{length, take, drop, getD, take-append-drop}
 use mir.Syntax.{Ty, tyEnum, ttnil, Lifetime, named, mut, w64, tyRef, tyInt, deref, field, place, Opd as Operand, copy, Rv as RValue, addrOf, aggregate, Body}
 use mir.Syntax.{seq, assign, return, call, Local, local, Fn, Name}
-use mir.Val.{Val, vstruct, vcons, vnil, vint, vptr, WT, hasTy}
+use mir.Val.{Fits, Val, vstruct, vcons, vnil, vint, vptr, WT, hasTy}
 use mir.Fields.{setV}
 use base.Logic.{SProp, ent, emp, id⊢, via, comm∗, emp∗, monoL, monoR}
 use base.Fml.{Share, Lft, flft, Fml, GName, ftrue, fsep, feq, fat, froom}
@@ -29,17 +29,57 @@ use types.Run.{returns, enter, alloc1, alloc0, pass1}
 use denote.RattleType.{RattleType, Denots, Valss, flat, owns}
 use denote.Laws.{Is, shows}
 use denote.Ref.{RefT, now}
-use denote.Signature.{Signature, typeAt, typesAt}
+use denote.Signature.{Slot, plain, Signature, typeAt, typesAt}
 use denote.Slice.{sliceTy, sliceVal, ShrSlice, finally, shr-slice-copy}
 use denote.Plain.{uint-makes}
-use denote.Builtin.{usize}
+use denote.Array.{Array}
+use denote.Builtin.{usize, i64, ArrayOf}
 use denote.Steps.{peeks, heard, owned}
 use denote.Triple.Statement.{Contract, Triple}
 use denote.Triple.Call.{calls-at}
 use denote.Triple.Clauses.{Clauses, Ended, Lasts, atExit, lasts, closing}
 use denote.Triple.Entry.{Args, Vals, onEntry}
 use denote.Triple.Spec.{tripleOf}
+use Rattle.rules.proofs.Point as P
 use Rattle.records.proofs.Walking.{locals, contents, free-all, stars, seps, items, returned}
+
+-- ---- an agent line, a user line and a point, and as a signature has them
+abbrev pub Ra : RattleType
+Ra = Array i64 7
+
+abbrev pub Ru : RattleType
+Ru = Array i64 3
+
+abbrev pub Rp : RattleType
+Rp = P.the-row
+
+abbrev pub slotA : {n : ℕ} → Slot n
+slotA = ArrayOf (plain (λ _. i64)) (λ _. tt) 7
+
+abbrev pub slotU : {n : ℕ} → Slot n
+slotU = ArrayOf (plain (λ _. i64)) (λ _. tt) 3
+
+abbrev pub slotP : {n : ℕ} → Slot n
+slotP = plain (λ _. Rp)
+
+-- that a number fits its local, and a slice
+pub fits-number : {n : ℕ} → n < 2 ^ 64 → Unit {0} × Fits w64 n
+fits-number g = (tt, record { fits = g })
+
+pub fits-slice : {n : ℕ} → n < 2 ^ 64 → Unit {0} × (Unit {0} × (Fits w64 n × Unit {0}))
+fits-slice g = (tt, (tt, (record { fits = g }, tt)))
+
+-- how a test came out
+pub cases : {X : Type 1} (z : Bool) → (z ≡ true → X) → (z ≡ false → X) → X
+cases true f g = f refl
+cases false f g = g refl
+
+-- the machine value of a slice, and what one owns that is lent with the lifetime number k
+abbrev pub sliceOf : {X : Type 0} → RefT (List X) → Val
+sliceOf x = sliceVal (x .ptr) (length (x .now))
+
+abbrev pub Shared : ℕ → Lft → (R : RattleType) → RefT (List (R .Denot)) → Fml
+Shared k κ R x = ShrSlice (named k) κ R .own x (sliceOf x ∷ [])
 
 -- ---- the locals of a function, allocated at these places
 abbrev pub Places : List Local → Type 0
@@ -57,7 +97,7 @@ tyAt E i = getD E i (tyEnum [] ttnil, zero) .0
 abbrev pub baseAt : List (Ty × ℕ) → ℕ → ℕ
 baseAt E i = getD E i (tyEnum [] ttnil, zero) .1
 
--- where it stands in a context
+-- where the local i stands in a context
 abbrev pub spot : {M : Type 1} {𝓤 : URA M} → List (Item 𝓤) → ℕ → ℕ
 spot Γ i = length Γ - (2 * i + 2)
 
@@ -65,20 +105,8 @@ spot Γ i = length Γ - (2 * i + 2)
 abbrev pub front : {M : Type 1} {𝓤 : URA M} → List (Item 𝓤) → List (Ty × ℕ) → ℕ
 front Γ E = length Γ - 2 * length E
 
--- how a test came out
-pub cases : {X : Type 1} (z : Bool) → (z ≡ true → X) → (z ≡ false → X) → X
-cases true f g = f refl
-cases false f g = g refl
-
--- the machine value of a slice, and what one owns that is lent with the lifetime number k
-abbrev pub sliceOf : {X : Type 0} → RefT (List X) → Val
-sliceOf x = sliceVal (x .ptr) (length (x .now))
-
-abbrev pub Shared : ℕ → Lft → (R : RattleType) → RefT (List (R .Denot)) → Fml
-Shared k κ R x = ShrSlice (named k) κ R .own x (sliceOf x ∷ [])
-
 module _ {M : Type 1} (𝓤 : URA M) (H : Heap 𝓤) (A : Atoms 𝓤) where
-  -- its entry; and the context once the local i of the environment holds v
+  -- the entry of the local i, and the context once that local holds v
   abbrev pub entry : List (Item 𝓤) → ℕ → Item 𝓤
   entry Γ i = nth 𝓤 H A (spot Γ i) Γ
 
@@ -86,6 +114,7 @@ module _ {M : Type 1} (𝓤 : URA M) (H : Heap 𝓤) (A : Atoms 𝓤) where
   holding E i v Γ = put 𝓤 H A (spot Γ i) (‵ (fat fullShare (tyAt E i) (baseAt E i) zero v)) Γ
 
 module _ {M : Type 1} {𝓤 : URA M} {H : Heap 𝓤} {A : Atoms 𝓤} {K : Type 0} {W : Given 𝓤 H A} where
+  -- all locals are allocated
   pub allocates : {Γ : List (Item 𝓤)} → K → (ls : List Local) {Kt : Env 𝓤 H → Goal 𝓤 H}
       → ((bs : Places ls) → Seq K W (locals (envOf ls bs) [] Γ) (Kt (envOf ls bs))) → Seq K W Γ (allocs ls Kt)
   allocates t [] k = alloc0 t $ k tt
@@ -157,7 +186,7 @@ module _ {M : Type 1} {𝓤 : URA M} {H : Heap 𝓤} {A : Atoms 𝓤} {K : Type 
       → Step K W (holding 𝓤 H A E i w Γ) G Γ G
   spells t E i e at-i = rewrite t (spot Γ i) (λ (u : Val). ‵ (fat fullShare (tyAt E i) (baseAt E i) zero u)) e at-i
 
-  -- what a number owns is had for nothing, and what a shared slice owns twice
+  -- what a shared slice owns is had twice, and what a number owns for nothing
   pub twice : K → {G : Goal 𝓤 H} (k : ℕ) (κ : Lft) (R : RattleType) (x : RefT (List (R .Denot)))
       → Step K W (‵ (Shared k κ R x) ∷ ‵ (Shared k κ R x) ∷ Γ) G (‵ (Shared k κ R x) ∷ Γ) G
   twice t k κ R x = step (λ s. use1 W (‵ (Shared k κ R x) ⊛ ‵ (Shared k κ R x)) (shr-slice-copy 𝓤 H A W (named k) κ R .twice x (sliceOf x ∷ [])) $ split t $ s)
@@ -200,11 +229,12 @@ module _ {M : Type 1} {𝓤 : URA M} {H : Heap 𝓤} {A : Atoms 𝓤} {K : Type 
       (runs C Λ E (seq (assign (place k []) (aggregate (copy (place j []) ∷ copy (place i (field 1 ∷ [])) ∷ []))) rest) q)) (sym same)
       (new t (agg t (and-then t (var t g₁) (and-then t (count t f e₁) (no-more t)))) h₁ wt₁ $ s))
 
--- ---- what a callee left of the slices lent to it
+-- ---- what a callee left of a parameter: of a slice that it may write, a last list as long as the first
 pub data Last : Type 2 where
   none : Last
   left : (R : RattleType) → GName → List (R .Denot) → ℕ → Last
 
+-- as its `post` says it, and of that the last lists and their lengths
 abbrev pub said : List Last → List Fml
 said [] = []
 said (none ∷ ls) = ftrue ∷ said ls
@@ -264,6 +294,7 @@ module _ {M : Type 1} (𝓤 : URA M) (H : Heap 𝓤) (A : Atoms 𝓤) where
       (monoR 𝓤 (sem 𝓤 H A (T .own (a .0) (vss .0))) (owns-in Ts (a .1) (vss .1)))
 
   module _ (S : Signature) (κs : Lfts (S .lifetimes)) (qs : Shares (S .lifetimes)) (a : Args S κs) (vss : Vals S κs) where
+    -- what is lent to a function, the tokens first
     abbrev Δ : List (Item 𝓤)
     Δ = tokens (S .lifetimes) κs qs
 
@@ -293,8 +324,8 @@ module _ {M : Type 1} {𝓤 : URA M} {H : Heap 𝓤} {A : Atoms 𝓤} (W : Given
   begins S κs qs a vss C Λ f Kf k =
       via 𝓤 _ (lent-out 𝓤 H A S κs qs a vss) ((enter ! C Λ f (flat (typesAt (S .params) κs) vss) Kf $ allocates ! (f .locals) k) .prf)
 
--- ---- a call. What is lent stands in front; the result goes to the local i, and then stand in front what was left of the slices, and the
--- tokens
+-- ---- a call. What is lent stands in front; the result goes to the local i, as w spells it, and then the last lists and the tokens stand in
+-- front
 module _ {M : Type 1} {𝓤 : URA M} {H : Heap 𝓤} {A : Atoms 𝓤} (W : Given 𝓤 H A) (T : Ended) (c : Clauses 𝓤 T)
     (y : tripleOf 𝓤 H A (T .signature) (closing 𝓤 H A T c) .Ghost) where
   abbrev Callee : Contract 𝓤
@@ -313,12 +344,13 @@ module _ {M : Type 1} {𝓤 : URA M} {H : Heap 𝓤} {A : Atoms 𝓤} (W : Given
     pub asks : K → FmC 𝓤 H (W .laws) C → {f : Name} {xs : List Operand} {i : ℕ} {rest : Body} → Triple 𝓤 (C f) Callee
         → ent 𝓤 (emp 𝓤) (c κs a .requires (y .1)) → Opds K W (raw (Callee .pre y) ∷ Γ) E xs (Callee .args y)
         → entry 𝓤 H A Γ i ≡ ‵ (froom (tyAt E i) (baseAt E i) zero) → ((r : R .Denot) (v : Val) → Is R r (v ∷ []) → T′ (hasTy (tyAt E i) v) × WT v)
+        → (w : R .Denot → Val → Val) → ((r : R .Denot) (v : Val) → Is R r (v ∷ []) → v ≡ w r v)
         → (φ : R .Denot → Lasts T κs a → Type 0) → ((r : R .Denot) (ws : Lasts T κs a) → ent 𝓤 (c κs a .ensures (y .1) r (atExit T κs a ws)) (fact 𝓤 (φ r ws)))
         → (ls : Lasts T κs a → List Last) → ((ws : Lasts T κs a) → lasts T κs a ws ≡ seps (said (ls ws)))
         → ((v : Val) (r : R .Denot) (ws : Lasts T κs a) → Is R r (v ∷ []) → φ r ws → AsLong (ls ws)
-        → Seq K W (‵ (seps (finals (ls ws))) ∷ stars (tokens (T .signature .lifetimes) κs (y .0 .1)) ∷ holding 𝓤 H A E i v Γ) (runs C Λ E rest q))
+        → Seq K W (‵ (seps (finals (ls ws))) ∷ stars (tokens (T .signature .lifetimes) κs (y .0 .1)) ∷ holding 𝓤 H A E i (w r v) Γ) (runs C Λ E rest q))
         → Seq K W (lent 𝓤 H A (T .signature) κs (y .0 .1) a (y .0 .4) ++ Γ) (runs C Λ E (seq (call f xs (place i [])) rest) q)
-    asks t fm {i = i} met req os e typed φ says ls told k =
+    asks t fm {i = i} {rest = rest} met req os e typed w spelt φ says ls told k =
         let L : SProp 𝓤 = onEntry 𝓤 H A (T .signature) κs (y .0 .1) a (y .0 .4) in
         let Q : SProp 𝓤 = c κs a .requires (y .1) in
         cut (lent 𝓤 H A (T .signature) κs (y .0 .1) a (y .0 .4)) (raw (Callee .pre y) ∷ []) Γ (via 𝓤 L (lent-in 𝓤 H A (T .signature) κs (y .0 .1) a (y .0 .4))
@@ -328,4 +360,5 @@ module _ {M : Type 1} {𝓤 : URA M} {H : Heap 𝓤} {A : Atoms 𝓤} (W : Given
         peeks t R (Is R) (shows 𝓤 H A R) r (v ∷ []) (λ is. let-go t $ use1 W (raw (fact 𝓤 (φ r ws))) (says r ws) $ heard t (φ r ws) (λ p.
         land t (from t (stop t)) (init t (suc (suc (spot Γ i))) e (typed r v is)) $
         use1 W (‵ (seps (said (ls ws)))) (subst (λ (P : Fml). ent 𝓤 (sem 𝓤 H A (lasts T κs a ws)) (sem 𝓤 H A P)) (told ws) (id⊢ 𝓤 _)) $
-        lefts t (ls ws) (λ g. k v r ws is p g)))))
+        lefts t (ls ws) (λ g. subst (λ (u : Val). Seq K W (‵ (seps (finals (ls ws))) ∷ stars (tokens (T .signature .lifetimes) κs (y .0 .1)) ∷
+        holding 𝓤 H A E i u Γ) (runs C Λ E rest q)) (sym (spelt r v is)) (k v r ws is p g))))))

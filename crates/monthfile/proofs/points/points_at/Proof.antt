@@ -25,7 +25,7 @@ use types.Kit.{Given, Item, Sq, runs, anyQ, atRet, ‵, _$_, !, move, drop, fspl
 use types.Part.{whole, sub}
 use types.Run.{store-raw, from, lit, of-opd, bin, and-then, no-more, assigns, first, blocks, stays, leaves-loop, loops, again, Below, exec, params1, pass0}
 use sound.WpLaws.{FmC, fmOf, WpFn-mono}
-use denote.RattleType.{RattleType, flat}
+use denote.RattleType.{flat}
 use denote.Laws.{Is, shows}
 use denote.Plain.{uint-vals, uint-tells, bool-lawful}
 use denote.Builtin.{u8, usize}
@@ -49,8 +49,8 @@ use Rattle.rules.proofs.Point as T
 use Rattle.rules.proofs.Point.Laws as T′
 use Rattle.monthfile.specs.Parts.{PointAt}
 use Rattle.records.proofs.Walking.{bare, full, locals, splits, joins, fjoins}
-use Rattle.monthfile.proofs.Walks.{Places, envOf, sliceOf, Shared, none, tokens, cases, begins, passed, rolls, var, part, aimed, new, anew, anew-last}
-use Rattle.monthfile.proofs.Walks.{empties, spells, twice, number, asks, leaves}
+use Rattle.monthfile.proofs.Walks.{Rp as R, slotP, fits-number, fits-slice, Places, envOf, sliceOf, Shared, none, tokens, cases, begins, passed, rolls}
+use Rattle.monthfile.proofs.Walks.{var, part, aimed, new, anew, anew-last, empties, spells, twice, number, asks, leaves}
 use Rattle.monthfile.proofs.PointSteps.{noPoint, Facts, more, start, room-left, same-length, next, done as filled}
 use Rattle.monthfile.proofs.points.PointRead as L
 use Rattle.monthfile.proofs.points.PointRead.Laws as L′
@@ -68,17 +68,10 @@ use Rattle.monthfile.proofs.points.points_at.Statement as stated
 use Rattle.monthfile.proofs.points.points_at.Code as code
 use Rattle.monthfile.proofs.points.points_at.Code.Mir as mir
 
-abbrev R : RattleType
-R = T.the-row
-
 abbrev stayed : Stays (points-at.ended .signature .params) (points-at.ended .kept)
 stayed =
     let number = stay-none (λ _. usize) yes in
-    (stay-none-slice (0 ∷ []) tt (plain (λ _. u8)) yes, (number, (number, (stay-slice (1 ∷ []) tt (plain (λ _. R)), tt))))
-
--- the bytes before point n
-bytes-fit : (n m : ℕ) → n < m → m * 72 < 2 ^ 63 → n * 72 < 2 ^ 64
-bytes-fit n m l g = omega (arith, l, g)
+    (stay-none-slice (0 ∷ []) tt (plain (λ _. u8)) yes, (number, (number, (stay-slice (1 ∷ []) tt slotP, tt))))
 
 -- ---- the states of the loop
 module _ (t : List ℕ) (from room : ℕ) (ys : List Point) where
@@ -160,19 +153,21 @@ module _ {M : Type 1} (𝓤 : URA M) (H : Heap 𝓤) (A : Atoms 𝓤) (W : Given
           move ! (1 ∷ []) $ twice ! 0 κ u8 tx $ number ! room gr $ number ! n gn $ number ! i gi $ move ! (5 ∷ 3 ∷ []) $
           asks W more-points.ended (more-points.clauses 𝓤 H A mem run) (to-more i n) ! fm known-more (factI 𝓤 _ (emp 𝓤) (f .0))
           (and-then ! (var ! refl) (and-then ! (var ! refl) (and-then ! (var ! refl) (and-then ! (var ! refl) (no-more !)))))
-          refl (λ r u is. bool-lawful 𝓤 H A W .typed r _ is .0) (λ r _. r ≡ more t at room ys i n) (λ r _. id⊢ 𝓤 _)
+          refl (λ r u is. bool-lawful 𝓤 H A W .typed r _ is .0) (λ r u. vbool r) (λ r u is. ap only is)
+          (λ r _. r ≡ more t at room ys i n) (λ r _. id⊢ 𝓤 _)
           (λ _. none ∷ none ∷ none ∷ none ∷ []) (λ _. refl) (λ u r _ is e _. drop ! $ splits ! (‵ (flft κ q) ∷ []) $
           cases (more t at room ys i n) (λ z.
           let ln = room-left t at room ys i n zs f z in
           let lz : n < length zs = omega (arith, len) in
-          let gb : n * 72 < 2 ^ 64 = bytes-fit n (length zs) lz (subst (λ (m : ℕ). m * 72 < 2 ^ 63) (sym len) (gp .1)) in
-          spells ! E 8 (ap only is ∙ ap vbool (e ∙ z)) refl $ stays ! (var ! refl) $
+          let bytes : length ys * 72 < 2 ^ 63 = gp .1 in
+          let gb : n * 72 < 2 ^ 64 = omega (arith, ln, fits, bytes) in
+          spells ! E 8 (ap vbool (e ∙ z)) refl $ stays ! (var ! refl) $
           move ! (1 ∷ []) $ twice ! 0 κ u8 tx $ number ! i gi $ move ! (3 ∷ 1 ∷ []) $
           asks W point-line.ended (point-line.clauses 𝓤 H A mem run) (to-line i) ! fm known-line (factI 𝓤 _ (emp 𝓤) (f .0))
           (and-then ! (var ! refl) (and-then ! (var ! refl) (no-more !))) refl (λ l v isl. LL.lawful L.the-type L′.the-laws 𝓤 H A W .typed l _ isl .0)
+          (λ l v. L′.lowered l) (λ l v isl. ap only (LL.tells L.the-type L′.the-laws l _ isl))
           (λ l _. PointAt t i l) (λ l _. id⊢ 𝓤 _) (λ _. none ∷ none ∷ []) (λ _. refl) (λ v l _ isl a _. drop ! $ splits ! (‵ (flft κ q) ∷ []) $
-          spells ! E 7 (ap only (LL.tells L.the-type L′.the-laws l _ isl)) refl $
-          new ! (bin ! (var ! refl) (lit ! tt) (record { fits = gb })) refl (tt, record { fits = gb }) $
+          new ! (bin ! (var ! refl) (lit ! tt) (record { fits = gb })) refl (fits-number gb) $
           new ! (bin ! (part ! refl (sub ! 0 refl (whole !))) (var ! refl) tt) refl (tt, tt) $
           spells ! E 10 (ap (λ (k : ℕ). vptr b k) (sym (place-is 72 o n))) refl $
           move ! (3 ∷ 4 ∷ 2 ∷ []) $ opens-slice ! tt R zs b o $
@@ -184,12 +179,12 @@ module _ {M : Type 1} (𝓤 : URA M) (H : Heap 𝓤) (A : Atoms 𝓤) (W : Given
           move ! (1 ∷ 0 ∷ []) $ elem-put ! R fullShare zs n (l .point) (T′.lowered (l .point) ∷ []) b o lz $
           closes-slice ! tt R zs (set zs n (l .point)) (length-set zs n (l .point)) b o $
           -- [obs; the borrow; the points' token; the text's token; the text]
-          anew ! (of-opd ! (part ! refl (sub ! 1 refl (whole !)))) refl (tt, record { fits = LL.owed L.the-type L′.the-laws l _ isl .1 .0 .1 }) $
-          anew-last ! (bin ! (var ! refl) (lit ! tt) (record { fits = omega (arith, ln, gr) })) refl (tt, record { fits = omega (arith, ln, gr) }) $
+          anew ! (of-opd ! (part ! refl (sub ! 1 refl (whole !)))) refl (fits-number (LL.owed L.the-type L′.the-laws l _ isl .1 .0 .1)) $
+          anew-last ! (bin ! (var ! refl) (lit ! tt) (record { fits = omega (arith, ln, gr) })) refl (fits-number (omega (arith, ln, gr))) $
           empties ! 7 refl $ empties ! 8 refl $ empties ! 9 refl $ empties ! 10 refl $ move ! (3 ∷ 4 ∷ 2 ∷ []) $
           again ! (≺ t at room ys) I y (l .next, (n + 1, (set zs n (l .point), next t at room ys i n zs f fits z l a))) (omega (arith, ln))))) (λ z.
-          spells ! E 8 (ap only is ∙ ap vbool (e ∙ z)) refl $ leaves-loop ! (var ! refl) $ exec ! (𝓣 .C) (𝓣 .Λ) E mir.t-4 (atRet E Post) $
-          new ! (of-opd ! (var ! refl)) refl (tt, record { fits = gn }) $ leaves ! refl refl $
+          spells ! E 8 (ap vbool (e ∙ z)) refl $ leaves-loop ! (var ! refl) $ exec ! (𝓣 .C) (𝓣 .Λ) E mir.t-4 (atRet E Post) $
+          new ! (of-opd ! (var ! refl)) refl (fits-number gn) $ leaves ! refl refl $
           suffices ! _ (ends-at 𝓤 H A points-at.ended stayed (points-at.clauses 𝓤 H A mem run) W w (vint w64 n) n (tt, (tt, (tt, (zs, tt))))
           (tt, (tt, (tt, (len, tt))))) $ says ! (filled t at room ys i n zs f z) $
           move ! (0 ∷ 2 ∷ []) $ joins ! (tokens 2 (w .0 .0) (w .0 .1)) $ frame ! $
@@ -203,9 +198,9 @@ module _ {M : Type 1} (𝓤 : URA M) (H : Heap 𝓤) (A : Atoms 𝓤) (W : Given
         (WpFn 𝓤 H (𝓣 .C) (𝓣 .Λ) code.function (flat (typesAt (points-at.signature .params) (w .0 .0)) vals) Post)
     walk inside =
         begins W points-at.signature (w .0 .0) (w .0 .1) (w .0 .3) vals (𝓣 .C) (𝓣 .Λ) code.function Post (λ bs. params1 ! $
-        passed ! refl (tt, (tt, (record { fits = gt .0 }, tt))) $ passed ! refl (tt, record { fits = ga }) $ passed ! refl (tt, record { fits = gr }) $
-        passed ! refl (tt, (tt, (record { fits = gp .0 }, tt))) $ pass0 ! $ rolls ! (2 * length (code.function .locals)) $
-        new ! (of-opd ! (var ! refl)) refl (tt, record { fits = ga }) $ new ! (of-opd ! (lit ! tt)) refl (tt, record { fits = lit< tt }) $
+        passed ! refl (fits-slice (gt .0)) $ passed ! refl (fits-number ga) $ passed ! refl (fits-number gr) $
+        passed ! refl (fits-slice (gp .0)) $ pass0 ! $ rolls ! (2 * length (code.function .locals)) $
+        new ! (of-opd ! (var ! refl)) refl (fits-number ga) $ new ! (of-opd ! (lit ! tt)) refl (fits-number (lit< tt)) $
         -- [the two tokens; the text 2; at 3; room 4; the points 5]
         move ! (5 ∷ []) $ fsplit3 ! $ drop ! $ move ! (5 ∷ 6 ∷ 2 ∷ 4 ∷ 3 ∷ []) $ drop ! $ drop ! $ first ! $ blocks ! $
         loops ! 𝓣 (≺ t at room ys) (wf t at room ys) (I bs) (turn bs) (at, (0, (ys, start t at room ys inside))))
@@ -218,7 +213,7 @@ points-at-meets 𝓤 H A W mem run 𝓣 known-more known-line =
     let f = WpFn 𝓤 H (𝓣 .C) (𝓣 .Λ) code.function in
     let text = goes-none-slice 𝓤 H A W 2 (0 ∷ []) tt (plain (λ _. u8)) yes in
     let number = goes-none 𝓤 H A W 2 (λ _. usize) yes (λ κs x f. refl) in
-    walk-meets 𝓤 H A points-at.ended stayed W (text, (number, (number, (goes-slice 𝓤 H A W 2 1 tt (plain (λ _. R)), tt))))
+    walk-meets 𝓤 H A points-at.ended stayed W (text, (number, (number, (goes-slice 𝓤 H A W 2 1 tt slotP, tt))))
     c f (WpFn-mono 𝓤 H (W .laws) 𝓣 code.function)
     (walked 𝓤 H A points-at.ended stayed c f (λ κs. (slice-vals, (uint-vals w64, (uint-vals w64, (slice-vals, tt)))))
     (λ κs. (shr-slice-tells (named 0) (κs .0) u8, (uint-tells w64, (uint-tells w64, (mut-slice-tells (named 1) (κs .1 .0) R, tt)))))

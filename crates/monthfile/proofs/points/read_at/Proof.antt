@@ -2,7 +2,7 @@
 -- of points to `points_at`, each for good; the text is had twice. All that the proof knows of the three callees is their contracts.
 -- Assumes nothing.
 use mathlib.Core.Path.{_≡_, refl, ap, subst}
-use Prim.Native.Nat.{ℕ, _*_, _<_, _^_}
+use Prim.Native.Nat.{ℕ, _+_, _-_, _*_, _<_, _^_}
 use mathlib.Core.List.{List, [], _∷_, _++_}
 use lib.ListN.{length}
 use lib.IntN.{ℤ}
@@ -21,13 +21,12 @@ use types.Kit.{Given, ‵, _$_, !, move, drop, split, suffices, frame, done}
 use types.Part.{whole, sub}
 use types.Run.{of-opd, and-then, no-more, params1, pass0}
 use sound.WpLaws.{FmC, fmOf, WpFn-mono}
-use denote.RattleType.{RattleType, flat}
+use denote.RattleType.{flat}
 use denote.Laws.{Is}
-use denote.Array.{Array}
 use denote.Plain.{uint-vals, uint-tells, uint-lawful}
-use denote.Builtin.{u8, usize, i64, ArrayOf}
+use denote.Builtin.{u8, usize}
 use denote.Ref.{RefT, now}
-use denote.Signature.{Slot, plain, typesAt}
+use denote.Signature.{plain, typesAt}
 use denote.Slice.{Room, slice-vals, shr-slice-tells as shared, mut-slice-tells as tells}
 use denote.Steps.{owned, only}
 use denote.Enum.Laws as EL
@@ -40,14 +39,13 @@ use denote.Triple.Table.{entered, cited}
 use denote.Triple.Walked.{says, Stays, stay-none-slice, stay-none, gave-slice, walkOf, goes-none-slice, goes-none, goes-gave-slice, ends-at, walked, walk-meets}
 use denote.Exit.{yes}
 use Rattle.rules.specs.declared.Point.{Point}
-use Rattle.rules.proofs.Point as T
 use Rattle.rules.specs.Lines.{pointOf}
 use Rattle.monthfile.specs.Reads.{asPoints}
 use Rattle.monthfile.specs.Parts.{Starts, PointsFilled, answerOf}
 use Rattle.monthfile.specs.declared.reading.Started.{Started}
 use Rattle.records.proofs.Walking.{splits, joins, fsplits, fjoins}
-use Rattle.monthfile.proofs.Walks.{envOf, sliceOf, Shared, Last, none, left, finals, tokens, begins, passed, rolls, var, part, count, new, relends}
-use Rattle.monthfile.proofs.Walks.{spells, twice, number, asks, leaves}
+use Rattle.monthfile.proofs.Walks.{Ra, Ru, Rp, slotA, slotU, slotP, fits-number, fits-slice, sliceOf, Shared, Last, none, left, finals, tokens, begins}
+use Rattle.monthfile.proofs.Walks.{passed, rolls, var, part, count, new, relends, twice, number, asks, leaves}
 use Rattle.monthfile.proofs.WholeFile.{room-for, whole-read}
 use Rattle.monthfile.proofs.reading.Started as S
 use Rattle.monthfile.proofs.reading.Started.Laws as S′
@@ -70,26 +68,10 @@ use Rattle.monthfile.proofs.points.read_at as read-at
 use Rattle.monthfile.proofs.points.read_at.Statement as stated
 use Rattle.monthfile.proofs.points.read_at.Code as code
 
--- an agent line, a user line, a point
-abbrev slotA : Slot 4
-slotA = ArrayOf (plain (λ _. i64)) (λ _. tt) 7
-
-abbrev slotU : Slot 4
-slotU = ArrayOf (plain (λ _. i64)) (λ _. tt) 3
-
-abbrev Ra : RattleType
-Ra = Array i64 7
-
-abbrev Ru : RattleType
-Ru = Array i64 3
-
-abbrev Rp : RattleType
-Rp = T.the-row
-
 abbrev stayed : Stays (read-at.ended .signature .params) (read-at.ended .kept)
 stayed =
     let text = stay-none-slice (0 ∷ []) tt (plain (λ _. u8)) yes in
-    let points = gave-slice (3 ∷ []) tt (plain (λ _. Rp)) in
+    let points = gave-slice (3 ∷ []) tt slotP in
     (text, (stay-none (λ _. usize) yes, (gave-slice (1 ∷ []) tt slotA, (gave-slice (2 ∷ []) tt slotU, (points, tt)))))
 
 module _ {M : Type 1} (𝓤 : URA M) (H : Heap 𝓤) (A : Atoms 𝓤) (mem : Memory → SProp 𝓤) (run : Routine → Fun 𝓤) where
@@ -105,6 +87,10 @@ module _ {M : Type 1} (𝓤 : URA M) (H : Heap 𝓤) (A : Atoms 𝓤) (mem : Mem
 
 module _ {M : Type 1} (𝓤 : URA M) (H : Heap 𝓤) (A : Atoms 𝓤) (W : Given 𝓤 H A) (mem : Memory → SProp 𝓤) (run : Routine → Fun 𝓤) (κ κa κu κp : Lft)
     (q qa qu qp : Share) (tx : RefT (List ℕ)) (at : ℕ) (ra ru : RefT (List (List ℤ))) (rp : RefT (List Point)) where
+  -- how many lifetimes there are, so many tokens
+  abbrev k : ℕ
+  k = read-at.signature .lifetimes
+
   abbrev t : List ℕ
   t = tx .now
 
@@ -153,20 +139,19 @@ module _ {M : Type 1} (𝓤 : URA M) (H : Heap 𝓤) (A : Atoms 𝓤) (W : Given
         (WpFn 𝓤 H C Λ code.function (flat (typesAt (read-at.signature .params) (y .0 .0)) vals) Post)
     walk =
         begins W read-at.signature (y .0 .0) (y .0 .1) (y .0 .3) vals C Λ code.function Post (λ bs. params1 ! $
-        passed ! refl (tt, (tt, (record { fits = gt .0 }, tt))) $ passed ! refl (tt, record { fits = ga }) $
-        passed ! refl (tt, (tt, (record { fits = gA .0 }, tt))) $ passed ! refl (tt, (tt, (record { fits = gU .0 }, tt))) $
-        passed ! refl (tt, (tt, (record { fits = gP .0 }, tt))) $ pass0 ! $ rolls ! (2 * length (code.function .locals)) $
-        relends ! refl refl refl (tt, tt) refl refl refl refl (tt, (tt, (record { fits = gA .0 }, tt))) $
-        relends ! refl refl refl (tt, tt) refl refl refl refl (tt, (tt, (record { fits = gU .0 }, tt))) $
-        new ! (of-opd ! (count ! refl refl)) refl (tt, record { fits = gP .0 }) $
-        -- [the four tokens; the text 4; at 5; agents, users and points 6 to 8]; the text is had twice
-        move ! (4 ∷ []) $ twice ! 0 κ u8 tx $ number ! p (gP .0) $ move ! (3 ∷ 4 ∷ 5 ∷ 1 ∷ 7 ∷ 8 ∷ 9 ∷ 0 ∷ []) $
+        passed ! refl (fits-slice (gt .0)) $ passed ! refl (fits-number ga) $
+        passed ! refl (fits-slice (gA .0)) $ passed ! refl (fits-slice (gU .0)) $
+        passed ! refl (fits-slice (gP .0)) $ pass0 ! $ rolls ! (2 * length (code.function .locals)) $
+        relends ! refl refl refl (tt, tt) refl refl refl refl (fits-slice (gA .0)) $
+        relends ! refl refl refl (tt, tt) refl refl refl refl (fits-slice (gU .0)) $
+        new ! (of-opd ! (count ! refl refl)) refl (fits-number (gP .0)) $
+        -- [the k tokens; the text; at; agents, users and points]; the text is had twice
+        move ! (k ∷ []) $ twice ! 0 κ u8 tx $ number ! p (gP .0) $ move ! (3 ∷ 4 ∷ 5 ∷ 1 ∷ (3 + k) ∷ (4 + k) ∷ (5 + k) ∷ 0 ∷ []) $
         asks W judged.ended (judged.clauses 𝓤 H A mem run) to-judged ! fm known-judged (id⊢ 𝓤 _)
         (and-then ! (var ! refl) (and-then ! (var ! refl) (and-then ! (var ! refl) (and-then ! (var ! refl) (and-then ! (var ! refl) (no-more !))))))
-        refl (λ b u is. LL.lawful S.the-type S′.the-laws 𝓤 H A W .typed b _ is .0)
+        refl (λ b u is. LL.lawful S.the-type S′.the-laws 𝓤 H A W .typed b _ is .0) (λ b u. S′.lowered b) (λ b u is. ap only (S′.lowers .val-is b _ is))
         (λ b ws. Starts t at (ra .now) (ru .now) p (ws .1 .1 .0) (ws .1 .1 .1 .0) b) (λ b ws. id⊢ 𝓤 _) LeftB (λ ws. refl) (λ u b ws is e g.
-        spells ! (envOf (code.function .locals) bs) 6 (ap only (S′.lowers .val-is b _ is)) refl $
-        relends ! refl refl refl (tt, tt) refl refl refl refl (tt, (tt, (record { fits = gP .0 }, tt))) $
+        relends ! refl refl refl (tt, tt) refl refl refl refl (fits-slice (gP .0)) $
         -- [the last lists of agents and users; the tokens; the text; the points' token; the points]
         move ! (1 ∷ []) $ split ! $ move ! (3 ∷ []) $ twice ! 0 κ u8 tx $
         number ! (b .room) (LL.owed S.the-type S′.the-laws b _ is .1 .1 .1 .1 .1 .0 .1) $
@@ -174,20 +159,20 @@ module _ {M : Type 1} (𝓤 : URA M) (H : Heap 𝓤) (A : Atoms 𝓤) (W : Given
         asks W points-at.ended (points-at.clauses 𝓤 H A mem run) (to-points b) ! fm known-points
         (factI 𝓤 _ (emp 𝓤) (room-for t at (ra .now) (ru .now) p (ws .1 .1 .0) (ws .1 .1 .1 .0) b e))
         (and-then ! (var ! refl) (and-then ! (part ! refl (sub ! 4 refl (whole !))) (and-then ! (part ! refl (sub ! 5 refl (whole !)))
-        (and-then ! (var ! refl) (no-more !))))) refl (λ n v isn. uint-lawful 𝓤 H A W w64 .typed n _ isn .0)
+        (and-then ! (var ! refl) (no-more !))))) refl (λ n v isn. uint-lawful 𝓤 H A W w64 .typed n _ isn .0) (λ n v. vint w64 n) (λ n v isn. ap only (isn .0))
         (λ n zs. PointsFilled pointOf t (b .at) (b .room) (rp .now) (zs .1 .1 .1 .0) n) (λ n zs. id⊢ 𝓤 _) (LeftP b) (λ zs. refl) (λ v n zs isn f h.
-        spells ! (envOf (code.function .locals) bs) 7 (ap only (isn .0)) refl $
         number ! n (isn .1) $ owned ! S.the-row (Is S.the-row) (LL.makes S.the-type S′.the-plain 𝓤 H A) b (S′.lowered b ∷ []) (as-lowered b u is) $
         asks W answer.ended (answer.clauses 𝓤 H A mem run) (to-answer b n) ! fm known-answer (id⊢ 𝓤 _)
         (and-then ! (var ! refl) (and-then ! (var ! refl) (no-more !))) refl (λ r w isr. EL.lawful O.the-type O′.the-laws 𝓤 H A W tt .typed r _ isr .0)
-        (λ r _. r ≡ answerOf b n) (λ r _. id⊢ 𝓤 _) (λ _. none ∷ none ∷ []) (λ _. refl) (λ w r _ isr a _. leaves ! refl refl $ drop ! $ drop ! $
+        (λ r w. w) (λ r w isr. refl) (λ r _. r ≡ answerOf b n) (λ r _. id⊢ 𝓤 _) (λ _. none ∷ none ∷ []) (λ _. refl)
+        (λ w r _ isr a _. leaves ! refl refl $ drop ! $ drop ! $
         suffices ! _ (ends-at 𝓤 H A read-at.ended stayed (read-at.clauses 𝓤 H A mem run) W y w r
         (tt, (tt, (ws .1 .1 .0, (ws .1 .1 .1 .0, (zs .1 .1 .1 .0, tt))))) (tt, (tt, (g .0, (g .1 .0, (h .0, tt)))))) $
         says ! (whole-read pointOf asPoints (λ f. refl) t at (ra .now) (ru .now) (rp .now) (ws .1 .1 .0) (ws .1 .1 .1 .0) (zs .1 .1 .1 .0) b n f e r a) $
         -- [the points' last list; the tokens of the text and the points; the text; the tokens of agents and users; their last lists]
-        move ! (1 ∷ []) $ splits ! (‵ (flft κ q) ∷ ‵ (flft κp qp) ∷ []) $ move ! (4 ∷ []) $ splits ! (‵ (flft κa qa) ∷ ‵ (flft κu qu) ∷ []) $
-        move ! (2 ∷ 0 ∷ 1 ∷ 3 ∷ []) $ joins ! (tokens 4 (y .0 .0) (y .0 .1)) $ frame ! $
-        fsplits ! (finals (LeftP b zs)) $ move ! (2 ∷ []) $ fsplits ! (finals (LeftB ws)) $ number ! at ga $ move ! (4 ∷ []) $
+        move ! (3 ∷ []) $ splits ! (‵ (flft κa qa) ∷ ‵ (flft κu qu) ∷ []) $ move ! ((k - 1) ∷ []) $ splits ! (‵ (flft κ q) ∷ ‵ (flft κp qp) ∷ []) $
+        move ! (0 ∷ 2 ∷ 3 ∷ 1 ∷ []) $ joins ! (tokens k (y .0 .0) (y .0 .1)) $ frame ! $ fsplits ! (finals (LeftP b zs)) $
+        move ! (2 ∷ []) $ fsplits ! (finals (LeftB ws)) $ number ! at ga $ move ! ((length (finals (LeftB ws)) + 2) ∷ []) $
         fjoins ! (Shared 0 κ u8 tx ∷ usize .own at (vint w64 at ∷ []) ∷ finals (LeftB ws) ++ finals (LeftP b zs)) $ frame ! $
         owned ! O.the-row (Is O.the-row) (EL.makes O.the-type O′.the-plain 𝓤 H A) r _ isr $ done !))))
 
@@ -200,7 +185,7 @@ read-at-meets 𝓤 H A W mem run 𝓣 known-judged known-points known-answer =
     let text = goes-none-slice 𝓤 H A W 4 (0 ∷ []) tt (plain (λ _. u8)) yes in
     let number = goes-none 𝓤 H A W 4 (λ _. usize) yes (λ κs x f. refl) in
     let slice = goes-gave-slice 𝓤 H A W 4 in
-    walk-meets 𝓤 H A read-at.ended stayed W (text, (number, (slice 1 tt slotA, (slice 2 tt slotU, (slice 3 tt (plain (λ _. Rp)), tt)))))
+    walk-meets 𝓤 H A read-at.ended stayed W (text, (number, (slice 1 tt slotA, (slice 2 tt slotU, (slice 3 tt slotP, tt)))))
     c f (WpFn-mono 𝓤 H (W .laws) 𝓣 code.function)
     (walked 𝓤 H A read-at.ended stayed c f (λ κs. (slice-vals, (uint-vals w64, (slice-vals, (slice-vals, (slice-vals, tt))))))
     (λ κs. let points = tells (named 3) (κs .1 .1 .1 .0) Rp in

@@ -3,7 +3,7 @@
 -- stored in the cell; and the outer borrow is closed at the new record. All that the proof knows of the two is their contracts.
 -- Assumes nothing.
 use mathlib.Core.Path.{_≡_, refl, ap}
-use Prim.Native.Nat.{ℕ, _*_, _<_, _^_}
+use Prim.Native.Nat.{ℕ, _+_, _*_, _<_, _^_}
 use mathlib.Core.List.{List, [], _∷_}
 use lib.ListN.{length}
 use lib.IntN.{ℤ}
@@ -28,8 +28,6 @@ use denote.RattleType.{RattleType, flat}
 use denote.Laws.{Is, shows}
 use denote.Memory.{mem, cellAt}
 use denote.Plain.{uint-lawful}
-use denote.Array.{Array}
-use denote.Builtin.{u8, i64, ArrayOf}
 use denote.Ref.{RefT, NamedLft, ptr-vals, mut-tells, now}
 use denote.Signature.{Slot, plain, namedLft, typesAt}
 use denote.Slice.{Room, slice-vals, mut-slice-tells as tells}
@@ -47,11 +45,11 @@ use denote.Triple.Spec.{Meets, tripleOf}
 use denote.Triple.Table.{entered, cited}
 use denote.Triple.Walked.{says, Stays, stay-ref, gave-slice, walkOf, goes-ref, goes-gave-slice, ends-at, walked, walk-meets}
 use Rattle.rules.specs.declared.Point.{Point}
-use Rattle.rules.proofs.Point as P
 use Rattle.monthfile.specs.Reads.{Reads, asPoints, nextOf}
 use Rattle.monthfile.specs.declared.reading.Reading.{Reading}
 use Rattle.monthfile.specs.declared.reader.Reader.{Reader}
-use Rattle.monthfile.proofs.Walks.{envOf, sliceOf, Last, none, left, begins, passed, rolls, var, behind, new, relends, spells, number, asks, leaves}
+use Rattle.monthfile.proofs.Walks.{Ra, Ru, Rp, slotA, slotU, slotP, fits-number, fits-slice, sliceOf, Last, none, left, begins, passed, rolls, var}
+use Rattle.monthfile.proofs.Walks.{behind, new, relends, number, asks, leaves}
 use Rattle.monthfile.proofs.reading.Reading as O
 use Rattle.monthfile.proofs.reading.Reading.Laws as O′
 use Rattle.monthfile.proofs.reader.Reader as T
@@ -69,27 +67,12 @@ use Rattle.monthfile.proofs.reader.read as read
 use Rattle.monthfile.proofs.reader.read.Statement as stated
 use Rattle.monthfile.proofs.reader.read.Code as code
 
--- `Reader<'a>`, as the referent's place in the signature; an agent line, a user line, a point
+-- `Reader<'a>`, as the referent's place in the signature
 abbrev referent : Slot 5
 referent = plain (λ κs. T.the-row (namedLft 5 1 tt κs))
 
-abbrev slotA : Slot 5
-slotA = ArrayOf (plain (λ _. i64)) (λ _. tt) 7
-
-abbrev slotU : Slot 5
-slotU = ArrayOf (plain (λ _. i64)) (λ _. tt) 3
-
-abbrev Ra : RattleType
-Ra = Array i64 7
-
-abbrev Ru : RattleType
-Ru = Array i64 3
-
-abbrev Rp : RattleType
-Rp = P.the-row
-
 abbrev stayed : Stays (read.ended .signature .params) (read.ended .kept)
-stayed = (stay-ref (0 ∷ []) tt referent, (gave-slice (2 ∷ []) tt slotA, (gave-slice (3 ∷ []) tt slotU, (gave-slice (4 ∷ []) tt (plain (λ _. Rp)), tt))))
+stayed = (stay-ref (0 ∷ []) tt referent, (gave-slice (2 ∷ []) tt slotA, (gave-slice (3 ∷ []) tt slotU, (gave-slice (4 ∷ []) tt slotP, tt))))
 
 module _ {M : Type 1} (𝓤 : URA M) (H : Heap 𝓤) (A : Atoms 𝓤) (at-mem : Memory → SProp 𝓤) (run : Routine → Fun 𝓤) where
   -- the contracts that the proof cites
@@ -102,6 +85,10 @@ module _ {M : Type 1} (𝓤 : URA M) (H : Heap 𝓤) (A : Atoms 𝓤) (at-mem : 
 module _ {M : Type 1} (𝓤 : URA M) (H : Heap 𝓤) (A : Atoms 𝓤) (W : Given 𝓤 H A) (at-mem : Memory → SProp 𝓤) (run : Routine → Fun 𝓤)
     (κ κ′ κa κu κp : Lft) (q q′ qa qu qp : Share) (bounds : AllOutlive 5 (read.signature .outlives) (κ, (κ′, (κa, (κu, (κp, tt)))))) (b o : ℕ)
     (γ : GName) (tx : RefT (List ℕ)) (n : ℕ) (ra ru : RefT (List (List ℤ))) (rp : RefT (List Point)) where
+  -- how many lifetimes there are, so many tokens
+  abbrev k : ℕ
+  k = read.signature .lifetimes
+
   abbrev α : NamedLft
   α = record { mir = named 1; lft = κ′ }
 
@@ -158,12 +145,6 @@ module _ {M : Type 1} (𝓤 : URA M) (H : Heap 𝓤) (A : Atoms 𝓤) (W : Given
   again : (m : ℕ) → m < 2 ^ 64 → ent 𝓤 (sem 𝓤 H A (Own n)) (sem 𝓤 H A (Own m))
   again m fits = qed W (‵ (Own n) ∷ []) ∵ number ! m fits $ move ! (1 ∷ 0 ∷ []) $ by ! (own-put 𝓤 H A W D L 1 vd m (mach n))
 
-  n-fits : Is R (h n) (mach n ∷ []) → n < 2 ^ 64
-  n-fits g = LL.owed D L (h n) _ g .1 .0 .1
-
-  text-room : Is R (h n) (mach n ∷ []) → Room u8 (length (tx .now))
-  text-room g = LL.owed D L (h n) _ g .0 .0 .1
-
   module _ (C : Calls 𝓤 H) (Λ : Loops 𝓤 H) (fm : FmC 𝓤 H (W .laws) C) (known-read : Triple 𝓤 (C #read-at) (ReadAt 𝓤 H A at-mem run))
       (known-next : Triple 𝓤 (C #next-of) (NextOf 𝓤 H A at-mem run))
       (gA : Room Ra (length (ra .now))) (gU : Room Ru (length (ru .now))) (gP : Room Rp (length (rp .now))) where
@@ -171,35 +152,36 @@ module _ {M : Type 1} (𝓤 : URA M) (H : Heap 𝓤) (A : Atoms 𝓤) (W : Given
         (WpFn 𝓤 H C Λ code.function (flat (typesAt (read.signature .params) (y .0 .0)) vals) Post)
     walk =
         begins W read.signature (y .0 .0) (y .0 .1) a vals C Λ code.function Post (λ bs. params1 ! $
-        passed ! refl (tt, tt) $ passed ! refl (tt, (tt, (record { fits = gA .0 }, tt))) $ passed ! refl (tt, (tt, (record { fits = gU .0 }, tt))) $
-        passed ! refl (tt, (tt, (record { fits = gP .0 }, tt))) $ pass0 ! $ rolls ! (2 * length (code.function .locals)) $
-        -- [the five tokens; the outer borrow; the slices]: the borrow is opened
-        move ! (5 ∷ []) $ fsplit3 ! $ drop ! $
+        passed ! refl (tt, tt) $ passed ! refl (fits-slice (gA .0)) $ passed ! refl (fits-slice (gU .0)) $
+        passed ! refl (fits-slice (gP .0)) $ pass0 ! $ rolls ! (2 * length (code.function .locals)) $
+        -- [the k tokens; the outer borrow; the slices]: the borrow is opened
+        move ! (k ∷ []) $ fsplit3 ! $ drop ! $
         opens ! tt R {h = h n} b o (λ vs. spelt ! R (Is R) (shows 𝓤 H A R) (LL.vals D L) (LL.tells D L) fullShare (h n) vs b o $
         use1 W (‵ (fat fullShare (T′.mir erased) b o (mach n))) (W .laws .raw-at fullShare (T′.mir erased) b o (mach n)) $
         move ! (1 ∷ []) $ peeks ! R (Is R) (shows 𝓤 H A R) (h n) (mach n ∷ []) (λ g. move ! (1 ∷ 0 ∷ []) $
+        let gn : n < 2 ^ 64 = LL.owed D L (h n) _ g .1 .0 .1 in
         -- [the struct's cell; what a Reader owns; the open borrow; obs; auth; the other tokens; the slices]
-        new ! (of-opd ! (load ! (behind ! refl refl) (look-in ! 0 (sub ! 1 refl (whole !))))) refl (tt, record { fits = n-fits g }) $
-        new ! (of-opd ! (load ! (behind ! refl refl) (look-in ! 0 (sub ! 0 refl (whole !))))) refl (tt, (tt, (record { fits = text-room g .0 }, tt))) $
-        relends ! refl refl refl (tt, tt) refl refl refl refl (tt, (tt, (record { fits = gA .0 }, tt))) $
-        relends ! refl refl refl (tt, tt) refl refl refl refl (tt, (tt, (record { fits = gU .0 }, tt))) $
-        relends ! refl refl refl (tt, tt) refl refl refl refl (tt, (tt, (record { fits = gP .0 }, tt))) $
+        new ! (of-opd ! (load ! (behind ! refl refl) (look-in ! 0 (sub ! 1 refl (whole !))))) refl (fits-number gn) $
+        new ! (of-opd ! (load ! (behind ! refl refl) (look-in ! 0 (sub ! 0 refl (whole !))))) refl (fits-slice (LL.owed D L (h n) _ g .0 .0 .1 .0)) $
+        relends ! refl refl refl (tt, tt) refl refl refl refl (fits-slice (gA .0)) $
+        relends ! refl refl refl (tt, tt) refl refl refl refl (fits-slice (gU .0)) $
+        relends ! refl refl refl (tt, tt) refl refl refl refl (fits-slice (gP .0)) $
         -- what the Reader owns is had twice, and of one copy the text goes to `read_at`
         move ! (1 ∷ []) $ use1 W (‵ (Own n) ⊛ ‵ (Own n)) (LL.copy D (T′.the-copy α) 𝓤 H A W .twice (h n) (mach n ∷ [])) $ split ! $
         use1 W (given (mach n ∷ [] ≡ mach n ∷ []) (‵ (all-own (D .parts) L vd))) (own-open 𝓤 H A W D L vd (mach n)) $
         learn ! (λ _. use1 W (‵ (ownAt (D .parts) L 0 tx) ⊛ ‵ (rest (D .parts) L 0 vd)) (own-out 𝓤 H A W (D .parts) L 0 vd) $ split ! $
-        move ! (1 ∷ []) $ drop ! $ number ! n (n-fits g) $ move ! (7 ∷ 8 ∷ 9 ∷ 10 ∷ 1 ∷ 0 ∷ 11 ∷ 12 ∷ 13 ∷ []) $
+        move ! (1 ∷ []) $ drop ! $ number ! n gn $ move ! (7 ∷ 8 ∷ 9 ∷ 10 ∷ 1 ∷ 0 ∷ (6 + k) ∷ (7 + k) ∷ (8 + k) ∷ []) $
         asks W read-at.ended (read-at.clauses 𝓤 H A at-mem run) to ! fm known-read (id⊢ 𝓤 _)
         (and-then ! (var ! refl) (and-then ! (var ! refl) (and-then ! (var ! refl) (and-then ! (var ! refl) (and-then ! (var ! refl) (no-more !))))))
-        refl (λ r u is. EL.lawful O.the-type O′.the-laws 𝓤 H A W tt .typed r _ is .0)
+        refl (λ r u is. EL.lawful O.the-type O′.the-laws 𝓤 H A W tt .typed r _ is .0) (λ r u. u) (λ r u is. refl)
         (λ r ws. Reads asPoints (tx .now) n (ra .now) (ru .now) (rp .now) (ws .1 .1 .0) (ws .1 .1 .1 .0) (ws .1 .1 .1 .1 .0) r) (λ r ws. id⊢ 𝓤 _)
-        Left (λ ws. refl) (λ u r ws is e ls. number ! n (n-fits g) $ owned ! O.the-row (Is O.the-row) (EL.makes O.the-type O′.the-plain 𝓤 H A) r _ is $
+        Left (λ ws. refl) (λ u r ws is e ls. number ! n gn $ owned ! O.the-row (Is O.the-row) (EL.makes O.the-type O′.the-plain 𝓤 H A) r _ is $
         asks W next-of.ended (next-of.clauses 𝓤 H A at-mem run) (to-next r u) ! fm known-next (id⊢ 𝓤 _)
         (and-then ! (var ! refl) (and-then ! (var ! refl) (no-more !))) refl (λ m v is′. uint-lawful 𝓤 H A W w64 .typed m _ is′ .0)
-        (λ m _. m ≡ nextOf r n) (λ m _. id⊢ 𝓤 _) (λ _. none ∷ none ∷ []) (λ _. refl) (λ v m _ is′ e₂ _. drop ! $ drop ! $
-        spells ! (envOf (code.function .locals) bs) 14 (ap only (is′ .0)) refl $
+        (λ m v. vint w64 m) (λ m v is′. ap only (is′ .0)) (λ m _. m ≡ nextOf r n) (λ m _. id⊢ 𝓤 _) (λ _. none ∷ none ∷ []) (λ _. refl)
+        (λ v m _ is′ e₂ _. drop ! $ drop ! $
         -- [the slices' last lists; the tokens; what a Reader owns; the cell 3; the open borrow; obs; auth]
-        assigns ! (of-opd ! (var ! refl)) (behind ! refl refl) (store-in ! 3 (sub ! 1 refl (whole !)) (tt, record { fits = is′ .1 })) $
+        assigns ! (of-opd ! (var ! refl)) (behind ! refl refl) (store-in ! 3 (sub ! 1 refl (whole !)) (fits-number (is′ .1))) $
         new ! (of-opd ! (var ! refl)) refl (EL.lawful O.the-type O′.the-laws 𝓤 H A W tt .typed r _ is .0) $
         -- the outer borrow is closed at the new record
         move ! (2 ∷ []) $ use1 W (‵ (Own m)) (again m (is′ .1)) $ move ! (3 ∷ []) $
@@ -218,7 +200,7 @@ read-meets 𝓤 H A W mem run 𝓣 known-read known-next =
     let c = read.clauses 𝓤 H A mem run in
     let f = WpFn 𝓤 H (𝓣 .C) (𝓣 .Λ) code.function in
     let slice = goes-gave-slice 𝓤 H A W 5 in
-    walk-meets 𝓤 H A read.ended stayed W (goes-ref 𝓤 H A W 5 0 tt referent, (slice 2 tt slotA, (slice 3 tt slotU, (slice 4 tt (plain (λ _. Rp)), tt))))
+    walk-meets 𝓤 H A read.ended stayed W (goes-ref 𝓤 H A W 5 0 tt referent, (slice 2 tt slotA, (slice 3 tt slotU, (slice 4 tt slotP, tt))))
     c f (WpFn-mono 𝓤 H (W .laws) 𝓣 code.function)
     (walked 𝓤 H A read.ended stayed c f (λ κs. (ptr-vals, (slice-vals, (slice-vals, (slice-vals, tt)))))
     (λ κs. let reader = mut-tells (named 0) (κs .0) (T.the-row (namedLft 5 1 tt κs)) in
