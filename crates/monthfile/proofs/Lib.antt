@@ -10,6 +10,8 @@
 --   FileSteps   a file's blocks up to its points
 --   PointSteps  points into their slice
 --   WholeFile   all of it is format's reading (`whole-read`)
+-- What the walks by hand share:
+--   Walks       locals by their numbers, slices lent on, calls
 pub mod Joining
 pub mod ValueSteps
 pub mod LineSteps
@@ -20,3 +22,4 @@ pub mod ReadSteps
 pub mod FileSteps
 pub mod PointSteps
 pub mod WholeFile
+pub mod Walks
