@@ -60,9 +60,6 @@ judge-requires c κs =
     let p = c .before .before .pre in
     (p .0, _, begun-so c (p .0) (p .1))
 
-add-m : tie.Need-add-m
-add-m c = omega (arith, few-agents (told c) (so c))
-
 slice-aggregate-write : tie.Need-slice-aggregate-write
 slice-aggregate-write c = let d = c .before in sym (length-take-le _ _ (held-reach (told d) (so d)))
 
@@ -107,7 +104,7 @@ state-first-spec =
     judge-requires
     (λ c. search needs)
     (λ c. search needs)
-    add-m
+    (λ c. omega (arith, few-agents (told c) (so c)))
     slice-aggregate-write
     slice-relend-prefix-write
     slice-aggregate-write-2

@@ -18,9 +18,6 @@ pv-fits c = search needs
 rows-requires : tie.Need-rows-requires
 rows-requires c κs = let w = c .before .pre .2 in (in-range w, w .point-count)
 
-pv-total-requires : tie.Need-pv-total-requires
-pv-total-requires c κs = payable (c .before .before .before .pre .2) .lines
-
 state-users-requires : tie.Need-state-users-requires
 state-users-requires c κs =
     let t = c .before in
@@ -55,7 +52,7 @@ write-spec =
     tie.close
     (tie.spec
     rows-requires
-    pv-total-requires
+    (λ c κs. payable (c .before .before .before .pre .2) .lines)
     state-users-requires
     state-payees-requires
     (λ c. search needs)

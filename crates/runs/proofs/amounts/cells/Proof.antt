@@ -18,18 +18,6 @@ inside : (c : tie.In-loop Inv-loop μ-loop) → c .before .loop .i * c .before .
     ≤ length (c .before .before .before .args .table .now)
 inside c = omega (arith, mul-le-mul-right (c .before .before .before .args .users) (c .loop-test .taken))
 
-mul-from : tie.Need-mul-from Inv-loop μ-loop
-mul-from c = omega (arith, inside c)
-
-add-to : tie.Need-add-to Inv-loop μ-loop
-add-to c = omega (arith, inside c)
-
-mul-cells-of : tie.Need-mul-cells-of Inv-loop μ-loop
-mul-cells-of c = omega (arith, inside c)
-
-part-cells-of-end : tie.Need-part-cells-of-end Inv-loop μ-loop
-part-cells-of-end c = omega (arith, inside c)
-
 pub cells-spec : {M : Type 1} → statement M
 cells-spec =
     tie.close
@@ -37,13 +25,13 @@ cells-spec =
     Inv-loop
     μ-loop
     (λ c. search needs)
-    mul-from
-    add-to
+    (λ c. omega (arith, inside c))
+    (λ c. omega (arith, inside c))
     (λ c. search needs)
-    mul-cells-of
+    (λ c. omega (arith, inside c))
     (λ c. search needs)
     (λ c. search needs)
-    part-cells-of-end
+    (λ c. omega (arith, inside c))
     (λ c κs. search needs)
     (λ c. search needs)
     (λ c. search needs)

@@ -6,15 +6,6 @@ use Rattle.runs.proofs.Buffered.{file-buffers}
 use Rattle.runs.proofs.files.close_file.Statement.{statement}
 use Rattle.runs.proofs.files.close_file.Tie as tie
 
-slice-aggregate-close : tie.Need-slice-aggregate-close
-slice-aggregate-close c = sym (length-take-le _ _ (search needs))
-
-slice-aggregate-close-2 : tie.Need-slice-aggregate-close-2
-slice-aggregate-close-2 c = sym (length-take-le _ _ (search needs))
-
-slice-aggregate-close-3 : tie.Need-slice-aggregate-close-3
-slice-aggregate-close-3 c = sym (length-take-le _ _ (search needs))
-
 close-requires : tie.Need-close-requires
 close-requires c κs = file-buffers (c .before .before .before .before .before .before .before .before .before .pre)
 
@@ -22,9 +13,9 @@ pub close-file-spec : {M : Type 1} → statement M
 close-file-spec =
     tie.close
     (tie.spec
-    slice-aggregate-close
-    slice-aggregate-close-2
-    slice-aggregate-close-3
+    (λ c. sym (length-take-le _ _ (search needs)))
+    (λ c. sym (length-take-le _ _ (search needs)))
+    (λ c. sym (length-take-le _ _ (search needs)))
     close-requires
     (λ c κs. search needs)
     (λ c. search needs)

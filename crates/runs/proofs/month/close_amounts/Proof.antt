@@ -6,15 +6,6 @@ use Rattle.runs.proofs.Buffered.{first-rows}
 use Rattle.runs.proofs.month.close_amounts.Statement.{statement}
 use Rattle.runs.proofs.month.close_amounts.Tie as tie
 
-slice-aggregate-state-and-close : tie.Need-slice-aggregate-state-and-close
-slice-aggregate-state-and-close c = sym (length-take-le _ _ (search needs))
-
-slice-aggregate-state-and-close-2 : tie.Need-slice-aggregate-state-and-close-2
-slice-aggregate-state-and-close-2 c = sym (length-take-le _ _ (search needs))
-
-slice-aggregate-state-and-close-3 : tie.Need-slice-aggregate-state-and-close-3
-slice-aggregate-state-and-close-3 c = sym (length-take-le _ _ (search needs))
-
 state-and-close-requires : tie.Need-state-and-close-requires
 state-and-close-requires c κs = first-rows _ _ _ (c .before .before .before .before .before .before .before .before .pre) (search needs) (search needs)
     (search needs)
@@ -25,11 +16,11 @@ close-amounts-spec =
     (tie.spec
     (λ c. search needs)
     (λ c. search needs)
-    slice-aggregate-state-and-close
+    (λ c. sym (length-take-le _ _ (search needs)))
     (λ c. search needs)
-    slice-aggregate-state-and-close-2
+    (λ c. sym (length-take-le _ _ (search needs)))
     (λ c. search needs)
-    slice-aggregate-state-and-close-3
+    (λ c. sym (length-take-le _ _ (search needs)))
     state-and-close-requires
     (λ c. search needs)
     (λ c. search needs)

@@ -7,9 +7,6 @@ use lib.Seq.{length-take-le}
 use Rattle.runs.proofs.month.print_amounts.Statement.{statement}
 use Rattle.runs.proofs.month.print_amounts.Tie as tie
 
-slice-aggregate-month : tie.Need-slice-aggregate-month
-slice-aggregate-month c = sym (length-take-le _ _ (search needs))
-
 month-requires : tie.Need-month-requires
 month-requires c κs =
     let s = c .before .before .before .before .before .before in
@@ -25,7 +22,7 @@ print-amounts-spec =
     (λ c. search needs)
     (λ c. search needs)
     (λ c. search needs)
-    slice-aggregate-month
+    (λ c. sym (length-take-le _ _ (search needs)))
     (λ c. search needs)
     month-requires
     (λ c. search needs)

@@ -5,9 +5,6 @@ use lib.Seq.{length-take-le}
 use Rattle.runs.proofs.rows.row.Statement.{statement}
 use Rattle.runs.proofs.rows.row.Tie as tie
 
-slice-aggregate-write : tie.Need-slice-aggregate-write
-slice-aggregate-write c = sym (length-take-le _ _ (search needs))
-
 pub row-spec : {M : Type 1} → statement M
 row-spec =
     tie.close
@@ -15,6 +12,6 @@ row-spec =
     (λ c. search needs)
     (λ c κs. search needs)
     (λ c. search needs)
-    slice-aggregate-write
+    (λ c. sym (length-take-le _ _ (search needs)))
     (λ c κs. search needs)
     (λ c. search needs))

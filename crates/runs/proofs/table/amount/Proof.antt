@@ -5,9 +5,6 @@ use borrow.Author.Needs.{needs}
 use Rattle.runs.proofs.table.amount.Statement.{statement}
 use Rattle.runs.proofs.table.amount.Tie as tie
 
-slice-aggregate-write : tie.Need-slice-aggregate-write
-slice-aggregate-write c = sym (length-take-le _ _ (search needs))
-
 pub amount-spec : {M : Type 1} → statement M
 amount-spec =
     tie.close
@@ -33,6 +30,6 @@ amount-spec =
     (λ c. search needs)
     (λ c κs. search needs)
     (λ c. search needs)
-    slice-aggregate-write
+    (λ c. sym (length-take-le _ _ (search needs)))
     (λ c κs. search needs)
     (λ c. search needs))

@@ -20,21 +20,6 @@ inside : (c : tie.In-loop Inv-loop μ-loop) → c .before .loop .i * c .before .
     ≤ length (c .before .before .before .args .cells .now)
 inside c = omega (arith, mul-le-mul-right (c .before .before .before .args .users) (c .loop-test .taken))
 
-mul-from : tie.Need-mul-from Inv-loop μ-loop
-mul-from c = omega (arith, inside c)
-
-add-to : tie.Need-add-to Inv-loop μ-loop
-add-to c = omega (arith, inside c)
-
-mul-row : tie.Need-mul-row Inv-loop μ-loop
-mul-row c = omega (arith, inside c)
-
-part-row-end : tie.Need-part-row-end Inv-loop μ-loop
-part-row-end c = omega (arith, inside c)
-
-slice-aggregate-row : tie.Need-slice-aggregate-row Inv-loop μ-loop
-slice-aggregate-row c = sym (length-take-le _ _ (search needs))
-
 pub month-spec : {M : Type 1} → statement M
 month-spec =
     tie.close
@@ -42,13 +27,13 @@ month-spec =
     Inv-loop
     μ-loop
     (λ c. search needs)
-    mul-from
-    add-to
+    (λ c. omega (arith, inside c))
+    (λ c. omega (arith, inside c))
     (λ c. search needs)
-    mul-row
+    (λ c. omega (arith, inside c))
     (λ c. search needs)
     (λ c. search needs)
-    part-row-end
+    (λ c. omega (arith, inside c))
     (λ c κs. search needs)
     (λ c. search needs)
     (λ c. search needs)
@@ -62,6 +47,6 @@ month-spec =
     (λ c. search needs)
     (λ c κs. search needs)
     (λ c. search needs)
-    slice-aggregate-row
+    (λ c. sym (length-take-le _ _ (search needs)))
     (λ c κs. search needs)
     (λ c. search needs))

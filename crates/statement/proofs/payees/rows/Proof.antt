@@ -43,9 +43,6 @@ cycle-is c = rw (toZ-ofZ (c .before .fits .month)) at (c .cycle-month .ensures)
 cycle-fits : (c : tie.After-cycle-month Inv-loop μ-loop) → SFits w64 (c .cycle-month .result)
 cycle-fits c = search needs
 
-vmst-requires : tie.Need-vmst-requires Inv-loop μ-loop
-vmst-requires c κs = fits (c .before)
-
 vmpa-requires : tie.Need-vmpa-requires Inv-loop μ-loop
 vmpa-requires c κs =
     let l = c .before .before .before in
@@ -97,7 +94,7 @@ rows-spec =
     (λ c. filling-none _ _)
     (λ c. search needs)
     (λ c. search needs)
-    vmst-requires
+    (λ c κs. fits (c .before))
     (λ c. search needs)
     vmpa-requires
     (λ c. search needs)

@@ -58,9 +58,6 @@ loop-again c =
     filling-more (same s) (b .loop .inv) [] (omega (arith, s .pre .1))
     (c .row .ensures ∙ ap (pointRow (map userOf us)) (c .before .point-of .ensures) ∙ sym (row-at us ps (b .loop .i) h))
 
-same-length : tie.Need-same-length Inv-loop μ-loop
-same-length c = filling-long (same (c .before .before)) (c .before .loop .inv)
-
 returns : tie.Need-returns Inv-loop μ-loop
 returns c = let s = c .before .before in filling-all (same s) (c .before .loop .inv) (omega (arith, s .pre .1))
 
@@ -80,5 +77,5 @@ rows-spec =
     (λ c. search needs)
     (λ c. search needs)
     loop-again
-    same-length
+    (λ c. filling-long (same (c .before .before)) (c .before .loop .inv))
     returns)

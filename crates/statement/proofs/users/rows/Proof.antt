@@ -90,9 +90,6 @@ loop-again c =
     )
     (filling-more (same s) (turn d .before .loop .inv) [] (omega (arith, h, s .pre .out-count)) (sym (user-row-at (s .pre) (i d) h)))
 
-same-length : tie.Need-same-length Inv-loop μ-loop
-same-length c = filling-long (same (c .before .before)) (c .before .loop .inv)
-
 returns : tie.Need-returns Inv-loop μ-loop
 returns c = let s = c .before .before in filling-all (same s) (c .before .loop .inv) (omega (arith, s .pre .out-count, c .loop-test .left))
 
@@ -132,5 +129,5 @@ rows-spec =
     (λ c. omega arith)
     (λ c. omega arith)
     loop-again
-    same-length
+    (λ c. filling-long (same (c .before .before)) (c .before .loop .inv))
     returns)
