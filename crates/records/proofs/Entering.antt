@@ -150,18 +150,36 @@ pub record Spelled (R : RattleType) : Type 2 where
   pub tells : Tells R (Is R) vals
   pub lawful : {M : Type 1} (𝓤 : URA M) (H : Heap 𝓤) (A : Atoms 𝓤) (W : Given 𝓤 H A) → Lawful 𝓤 H A R
 
-abbrev pub by-value : (D : Declared) → LL.Laws D → Spelled (row D)
-by-value D L = record { vals = LL.vals D L; tells = LL.tells D L; lawful = λ 𝓤 H A W. LL.lawful D L 𝓤 H A W }
+pub record Param : Type 2 where
+  pub type : RattleType
+  pub spelled : Spelled type
 
-abbrev pub shared : (ℓ : Lifetime) (κ : Lft) (R : RattleType) → Spelled (ShrSlice ℓ κ R)
-shared ℓ κ R = record { vals = slice-vals; tells = shr-slice-tells ℓ κ R; lawful = λ 𝓤 H A W. shr-slice-lawful 𝓤 H A W ℓ κ R }
+abbrev pub by-value : (D : Declared) → LL.Laws D → Param
+by-value D L = record { type = row D; spelled = record { vals = LL.vals D L; tells = LL.tells D L; lawful = λ 𝓤 H A W. LL.lawful D L 𝓤 H A W } }
 
-abbrev pub mutable : (ℓ : Lifetime) (κ : Lft) (R : RattleType) → Spelled (MutSlice ℓ κ R)
-mutable ℓ κ R = record { vals = slice-vals; tells = mut-slice-tells ℓ κ R; lawful = λ 𝓤 H A W. mut-slice-lawful 𝓤 H A W ℓ κ R }
+abbrev pub shared : Lifetime → Lft → RattleType → Param
+shared ℓ κ R = record {
+  type = ShrSlice ℓ κ R;
+  spelled = record { vals = slice-vals; tells = shr-slice-tells ℓ κ R; lawful = λ 𝓤 H A W. shr-slice-lawful 𝓤 H A W ℓ κ R };
+}
+
+abbrev pub mutable : Lifetime → Lft → RattleType → Param
+mutable ℓ κ R = record {
+  type = MutSlice ℓ κ R;
+  spelled = record { vals = slice-vals; tells = mut-slice-tells ℓ κ R; lawful = λ 𝓤 H A W. mut-slice-lawful 𝓤 H A W ℓ κ R };
+}
 
 abbrev pub Spelleds : List RattleType → Type 2
 Spelleds [] = Unit {2}
 Spelleds (R ∷ Rs) = Spelled R × Spelleds Rs
+
+abbrev pub row-types : List Param → List RattleType
+row-types [] = []
+row-types (p ∷ ps) = p .type ∷ row-types ps
+
+abbrev pub all-spelled : (ps : List Param) → Spelleds (row-types ps)
+all-spelled [] = tt
+all-spelled (p ∷ ps) = (p .spelled, all-spelled ps)
 
 abbrev pub spells : (Rs : List RattleType) → Spelleds Rs → Spells Rs
 spells [] ls = tt
