@@ -75,7 +75,8 @@ module _ {M : Type 1} (𝓤 : URA M) (H : Heap 𝓤) (A : Atoms 𝓤) (W : Given
     pub together : length ls ≡ 1024 → ent 𝓤 (sem 𝓤 H A (row Rl fullShare ls l 0)) Some
     unfolding partOf
     together e =
-        qed W (‵ (row Rl fullShare ls l 0) ∷ []) ∵ feqI ! ℕ (length ls) 1024 e $ fjoin ! $ use1 W (‵ (partAt Rls fullShare ls l 0)) (array-whole 𝓤 H A W Rl fullShare 1024 ls l 0) $
+        qed W (‵ (row Rl fullShare ls l 0) ∷ []) ∵ feqI ! ℕ (length ls) 1024 e $ fjoin ! $
+        use1 W (‵ (partAt Rls fullShare ls l 0)) (array-whole 𝓤 H A W Rl fullShare 1024 ls l 0) $
         fpick ! (λ vs. fsplit ! $ move ! (1 ∷ []) $ facts ! Rls (Is Rls) (shows 𝓤 H A Rls) ls vs (λ is.
         rewrite ! 0 (λ (ws : List Val). ‵ (cellAt fullShare (lines-type ∷ []) ws l 0)) (is .1 .0 .0) refl $
         use1 W (‵ (Holds (arrayVal (is .0)))) (W .laws .raw-at fullShare lines-type l 0 (arrayVal (is .0))) $

@@ -33,7 +33,8 @@ module _ (points : List Point) (n : ℕ) where
   pub start-facts : (lines : List (List ℤ)) → length lines ≡ 1024 → Facts 0 lines
   start-facts lines e = (omega arith, (e, refl))
 
-  pub next-facts : (i : ℕ) (lines : List (List ℤ)) (l : List ℤ) → Facts i lines → i < n → Counted points n → pointOf l ≡ getD points i (pointOf []) → Facts (i + 1) (set lines i l)
+  pub next-facts : (i : ℕ) (lines : List (List ℤ)) (l : List ℤ) → Facts i lines → i < n → Counted points n → pointOf l ≡ getD points i (pointOf [])
+      → Facts (i + 1) (set lines i l)
   next-facts i lines l f h counted e =
       let there : i < length lines = omega (arith, h, counted, f .1 .0) in
       let inside : i < length points = omega (arith, h, counted) in (
@@ -50,14 +51,16 @@ module _ (points : List Point) (n : ℕ) where
       let b : length (take 1024 points) ≡ i = length-take 1024 points ∙ omega (arith, f .0, h, counted) in
       record {
         count = f .1 .0;
-        are = ap (map pointOf) (sym (take-counted (length points) lines) ∙ ap (λ (k : ℕ). take k lines) a) ∙ f .1 .1 ∙ ap (λ (k : ℕ). take k points) (sym b) ∙ take-counted 1024 points;
+        are = ap (map pointOf) (sym (take-counted (length points) lines) ∙ ap (λ (k : ℕ). take k lines) a) ∙ f .1 .1 ∙ ap (λ (k : ℕ). take k points) (sym b)
+            ∙ take-counted 1024 points;
       }
 
 -- ---- the first k lines, k being at most 1,024 and the count
 take-min : {X : Type 0} (m k : ℕ) (xs : List X) → k ≡ min m (length xs) → take k xs ≡ take m xs
 take-min {X} m k xs e = ap (λ (j : ℕ). take j xs) (e ∙ sym (length-take m xs)) ∙ take-counted m xs
 
-pub first-taken : (points : List Point) (lines : List (List ℤ)) (n k : ℕ) → n ≡ length points → k ≡ min 1024 n → Takes points lines → FirstOf n points (take k lines)
+pub first-taken : (points : List Point) (lines : List (List ℤ)) (n k : ℕ) → n ≡ length points → k ≡ min 1024 n → Takes points lines
+    → FirstOf n points (take k lines)
 first-taken points lines n k c h t =
     let same : k ≡ min (length points) (length lines) = omega (arith, t .count, c, h) in
     record { counted = c; are = ap (map pointOf) (take-min (length points) k lines same) ∙ t .are }

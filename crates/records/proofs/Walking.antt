@@ -9,7 +9,8 @@ use lib.ListN.{take, drop, take-append-drop}
 use mir.Syntax.{Ty}
 use mir.Val.{Val}
 use base.Logic.{SProp, ent, sep, emp, id⊢, via, comm∗, assoc∗, assoc′, monoL, monoR, emp∗, fst∗}
-use base.Fml.{Fml, ftrue, ffalse, feq, flt, fsep, fand, for, fwand, fex, fall, fupd, fat, froom, fdies, flft, fdead, fobs, fauth, fres, fbor, fobor, flent, fshr-bor}
+use base.Fml.{Fml, ftrue, ffalse, feq, flt, fsep, fand, for, fwand, fex, fall, fupd, fat}
+use base.Fml.{froom, fdies, flft, fdead, fobs, fauth, fres, fbor, fobor, flent, fshr-bor}
 use prog.Wp.{Heap, Env, release}
 use ghost.Atoms.{Atoms, sem}
 use contract.Monad.{fact, factI}
@@ -17,7 +18,8 @@ use denote.Signature.{typeAt}
 use denote.Triple.Entry.{Res, alive}
 use denote.Triple.Spec.{tripleOf}
 use denote.Triple.Clauses.{Clauses, Ended, Lasts, atExit, lasts, closing}
-use types.Kit.{Given, Item, Goal, Step, step, frees, Soaks, Seq, ‵, raw, _⊛_, some, given, later, mean, ⋆, ⊢++, push, pop, sel⊢, cut, _$_, move, use1, split, pick, await}
+use types.Kit.{Given, Item, Goal, Step, step, frees, Soaks, Seq, ‵, raw, _⊛_, some, given, later}
+use types.Kit.{mean, ⋆, ⊢++, push, pop, sel⊢, cut, _$_, move, use1, split, pick, await}
 
 -- what lies in a local: nothing that is known, or a value
 pub data Filled : Type 0 where
@@ -115,16 +117,20 @@ module _ {M : Type 1} (𝓤 : URA M) (H : Heap 𝓤) (A : Atoms 𝓤) (W : Given
   locals-out : (E : Env 𝓤 H) (ws : List Filled) (Γ : List (Item 𝓤)) → ⋆ 𝓤 H A (locals E ws Γ) ⊢ release 𝓤 H E (⋆ 𝓤 H A Γ)
   locals-out [] ws Γ = id⊢ 𝓤 (⋆ 𝓤 H A Γ)
   locals-out (e ∷ E) [] Γ =
-      via 𝓤 _ (locals-out E [] (cell (e .0) (e .1) bare ∷ ‵ (fdies (e .0) (e .1)) ∷ Γ)) (via 𝓤 _ (release-mono E (local-out (e .0) (e .1) bare Γ)) (release-out E (Local e) (⋆ 𝓤 H A Γ)))
+      via 𝓤 _ (locals-out E [] (cell (e .0) (e .1) bare ∷ ‵ (fdies (e .0) (e .1)) ∷ Γ))
+      (via 𝓤 _ (release-mono E (local-out (e .0) (e .1) bare Γ)) (release-out E (Local e) (⋆ 𝓤 H A Γ)))
   locals-out (e ∷ E) (w ∷ ws) Γ =
-      via 𝓤 _ (locals-out E ws (cell (e .0) (e .1) w ∷ ‵ (fdies (e .0) (e .1)) ∷ Γ)) (via 𝓤 _ (release-mono E (local-out (e .0) (e .1) w Γ)) (release-out E (Local e) (⋆ 𝓤 H A Γ)))
+      via 𝓤 _ (locals-out E ws (cell (e .0) (e .1) w ∷ ‵ (fdies (e .0) (e .1)) ∷ Γ))
+      (via 𝓤 _ (release-mono E (local-out (e .0) (e .1) w Γ)) (release-out E (Local e) (⋆ 𝓤 H A Γ)))
 
-  all-out : (E : Env 𝓤 H) (k : ℕ) (Γ : List (Item 𝓤)) {P : SProp 𝓤} → drop k Γ ≡ locals E (contents (drop k Γ) []) [] → ⋆ 𝓤 H A (take k Γ) ⊢ P → ⋆ 𝓤 H A Γ ⊢ release 𝓤 H E P
+  all-out : (E : Env 𝓤 H) (k : ℕ) (Γ : List (Item 𝓤)) {P : SProp 𝓤} → drop k Γ ≡ locals E (contents (drop k Γ) []) [] → ⋆ 𝓤 H A (take k Γ) ⊢ P
+      → ⋆ 𝓤 H A Γ ⊢ release 𝓤 H E P
   all-out E k Γ {P} e h =
       let Δ : List (Item 𝓤) = take k Γ in
       via 𝓤 (⋆ 𝓤 H A (Δ ++ drop k Γ)) (subst (λ (Φ : List (Item 𝓤)). ⋆ 𝓤 H A Γ ⊢ ⋆ 𝓤 H A Φ) (sym (take-append-drop k Γ)) (id⊢ 𝓤 (⋆ 𝓤 H A Γ)))
       (via 𝓤 _ (⊢++ 𝓤 H A Δ (drop k Γ))
-      (via 𝓤 (⋆ 𝓤 H A Δ ∗ release 𝓤 H E (emp 𝓤)) (monoR 𝓤 (⋆ 𝓤 H A Δ) (subst (λ (Φ : List (Item 𝓤)). ⋆ 𝓤 H A Φ ⊢ release 𝓤 H E (emp 𝓤)) (sym e) (locals-out E (contents (drop k Γ) []) [])))
+      (via 𝓤 (⋆ 𝓤 H A Δ ∗ release 𝓤 H E (emp 𝓤)) (monoR 𝓤 (⋆ 𝓤 H A Δ) (subst (λ (Φ : List (Item 𝓤)). ⋆ 𝓤 H A Φ ⊢ release 𝓤 H E (emp 𝓤)) (sym e)
+      (locals-out E (contents (drop k Γ) []) [])))
       (via 𝓤 _ (release-in E (⋆ 𝓤 H A Δ) (emp 𝓤)) (release-mono E (via 𝓤 _ (fst∗ 𝓤 (⋆ 𝓤 H A Δ) (emp 𝓤)) h)))))
 
 -- all locals are freed, which stand behind the first k entries of the context
@@ -138,14 +144,16 @@ placed n i [] = i ∷ []
 placed zero i (j ∷ Γ) = i ∷ j ∷ Γ
 placed (suc n) i (j ∷ Γ) = j ∷ placed n i Γ
 
-place⊢ : {M : Type 1} (𝓤 : URA M) (H : Heap 𝓤) (A : Atoms 𝓤) (W : Given 𝓤 H A) (n : ℕ) (i : Item 𝓤) (Γ : List (Item 𝓤)) → ent 𝓤 (⋆ 𝓤 H A (i ∷ Γ)) (⋆ 𝓤 H A (placed n i Γ))
+place⊢ : {M : Type 1} (𝓤 : URA M) (H : Heap 𝓤) (A : Atoms 𝓤) (W : Given 𝓤 H A) (n : ℕ) (i : Item 𝓤) (Γ : List (Item 𝓤))
+    → ent 𝓤 (⋆ 𝓤 H A (i ∷ Γ)) (⋆ 𝓤 H A (placed n i Γ))
 place⊢ 𝓤 H A W n i [] = id⊢ 𝓤 (mean 𝓤 H A i)
 place⊢ 𝓤 H A W zero i (j ∷ Γ) = id⊢ 𝓤 (⋆ 𝓤 H A (i ∷ j ∷ Γ))
 place⊢ 𝓤 H A W (suc n) i (j ∷ Γ) =
     via 𝓤 (⋆ 𝓤 H A (j ∷ i ∷ Γ)) (sel⊢ 𝓤 H A (1 ∷ []) (i ∷ j ∷ Γ))
     (via 𝓤 (sep 𝓤 (mean 𝓤 H A j) (⋆ 𝓤 H A (placed n i Γ))) (monoR 𝓤 (mean 𝓤 H A j) (place⊢ 𝓤 H A W n i Γ)) (push 𝓤 H A j (placed n i Γ)))
 
-pub places : {M : Type 1} {𝓤 : URA M} {H : Heap 𝓤} {A : Atoms 𝓤} {K : Type 0} {W : Given 𝓤 H A} {Γ : List (Item 𝓤)} {G : Goal 𝓤 H} → K → {i : Item 𝓤} (n : ℕ) → Step K W (placed n i Γ) G (i ∷ Γ) G
+pub places : {M : Type 1} {𝓤 : URA M} {H : Heap 𝓤} {A : Atoms 𝓤} {K : Type 0} {W : Given 𝓤 H A} {Γ : List (Item 𝓤)} {G : Goal 𝓤 H} → K → {i : Item 𝓤} (n : ℕ)
+    → Step K W (placed n i Γ) G (i ∷ Γ) G
 places {𝓤 = 𝓤} {H = H} {A = A} {W = W} {Γ = Γ} t {i} n = step (λ s. record { prf = via 𝓤 (⋆ 𝓤 H A (placed n i Γ)) (place⊢ 𝓤 H A W n i Γ) (s .prf) })
 
 -- ---- a product taken apart and put together, all parts at once
@@ -218,9 +226,11 @@ module _ {M : Type 1} {𝓤 : URA M} {H : Heap 𝓤} {A : Atoms 𝓤} {K : Type 
 
 -- once it has returned: what its result owns, the tokens, the last values and what its `ensures` says
 module _ {M : Type 1} {𝓤 : URA M} {H : Heap 𝓤} {A : Atoms 𝓤} {K : Type 0} {W : Given 𝓤 H A} {Γ : List (Item 𝓤)} {G : Goal 𝓤 H} where
-  pub returned : K → Soaks G → (T : Ended) (c : Clauses 𝓤 T) (y : tripleOf 𝓤 H A (T .signature) (closing 𝓤 H A T c) .Ghost) (v : Val) (Δ : List (Item 𝓤)) → ent 𝓤 (alive 𝓤 H A (T .signature) (y .0 .0) (y .0 .1)) (mean 𝓤 H A (stars Δ))
+  pub returned : K → Soaks G → (T : Ended) (c : Clauses 𝓤 T) (y : tripleOf 𝓤 H A (T .signature) (closing 𝓤 H A T c) .Ghost) (v : Val) (Δ : List (Item 𝓤))
+      → ent 𝓤 (alive 𝓤 H A (T .signature) (y .0 .0) (y .0 .1)) (mean 𝓤 H A (stars Δ))
       → ((r : Res (T .signature) (y .0 .0)) (ws : Lasts T (y .0 .0) (y .0 .3))
-      → Seq K W (‵ (typeAt (T .signature .result) (y .0 .0) .own r (v ∷ [])) ∷ raw (c (y .0 .0) (y .0 .3) .ensures (y .1) r (atExit T (y .0 .0) (y .0 .3) ws)) ∷ ‵ (lasts T (y .0 .0) (y .0 .3) ws) ∷ stars Δ ∷ Γ) G)
+      → Seq K W (‵ (typeAt (T .signature .result) (y .0 .0) .own r (v ∷ [])) ∷ raw (c (y .0 .0) (y .0 .3) .ensures (y .1) r (atExit T (y .0 .0) (y .0 .3) ws))
+      ∷ ‵ (lasts T (y .0 .0) (y .0 .3) ws) ∷ stars Δ ∷ Γ) G)
       → Seq K W (raw (tripleOf 𝓤 H A (T .signature) (closing 𝓤 H A T c) .post y v) ∷ Γ) G
   returned t z T c y v Δ toks k =
       let κs = y .0 .0 in

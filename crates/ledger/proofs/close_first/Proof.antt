@@ -15,7 +15,8 @@ use Rattle.ledger.proofs.close_first.Tie as tie
 abbrev start : tie.After-scan → tie.Start
 start c = c .before .before
 
-found : (c : tie.After-scan) (all : List Point) → let a = start c .args in FirstOf (a .n) all (a .points .now) → ScanFinds (a .users .now) (a .n) (c .scan .result) all
+found : (c : tie.After-scan) (all : List Point) → let a = start c .args in FirstOf (a .n) all (a .points .now)
+    → ScanFinds (a .users .now) (a .n) (c .scan .result) all
 found c all f = record { counted = f .counted; sums = c .scan .ensures ∙ ap (scanned (map userOf (start c .args .users .now))) (f .are) }
 
 finish-requires : tie.Need-finish-requires

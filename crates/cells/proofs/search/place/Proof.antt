@@ -86,8 +86,8 @@ loop-less c = let l = c .before .before .before .before .before .before .before 
                 .before .before .before .before .before .before .before .loop-test .taken,
             c .before .before .before .before .before .before .before .before .before .before
                 .before .before .before .before .before .before .before .before .before .before .before .before .before .before .before .loop .inv .kept .tall,
-            c .before .before .before .before .before .before .before .before .before .before .before .before .before .before .before .before .before .before .before
-                .before .before .before .before .before .before .before .before .before .before .before .before .pre .tall,
+            c .before .before .before .before .before .before .before .before .before .before .before .before .before .before .before .before .before
+                .before .before .before .before .before .before .before .before .before .before .before .before .before .before .pre .tall,
           )),
     )
 
