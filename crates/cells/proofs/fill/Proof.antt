@@ -52,8 +52,7 @@ pub fill-spec : {M : Type 1} → statement M
 fill-spec =
     tie.close
     (tie.spec
-    (λ c. search needs)
-    (λ c. search needs)
+    (λ c. search needs) (λ c. search needs)
     (λ c. simp length-take (omega arith))
     (λ c. search needs)
     slice-aggregate-lay-2
@@ -65,10 +64,7 @@ fill-spec =
     slice-aggregate-lay-5
     (λ c. search needs)
     slice-aggregate-lay-6
-    (λ c. search needs)
-    (λ c. search needs)
+    (λ c. search needs) (λ c. search needs)
     slice-aggregate-lay-7
     lay-requires
-    (λ c. search needs)
-    (λ c. search needs)
-    (λ c. search needs))
+    (λ c. search needs) (λ c. search needs) (λ c. search needs))

@@ -37,10 +37,8 @@ total-spec =
     Inv-loop
     μ-loop
     (λ c. added-none _)
-    (λ c. search needs)
-    (λ c. search needs)
+    (λ c. search needs) (λ c. search needs)
     (λ c. rw (toZ-ofZ (entry-fits c)) (sum-fits c))
-    (λ c. search needs)
-    (λ c. search needs)
+    (λ c. search needs) (λ c. search needs)
     loop-again
     (λ c. added-all (c .before .loop .inv) (c .loop-test .left)))

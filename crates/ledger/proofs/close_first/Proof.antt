@@ -34,7 +34,5 @@ close-first-spec =
     (tie.spec
     (λ c κs. search needs)
     finish-requires
-    (λ c. search needs)
-    (λ c. search needs)
-    (λ c. search needs)
+    (λ c. search needs) (λ c. search needs) (λ c. search needs)
     returns)

@@ -32,7 +32,5 @@ close-lines-spec =
     (λ c κs. search needs)
     slice-aggregate-close-first
     close-first-requires
-    (λ c. search needs)
-    (λ c. search needs)
-    (λ c. search needs)
+    (λ c. search needs) (λ c. search needs) (λ c. search needs)
     returns)

@@ -164,16 +164,14 @@ fill-spec =
     μ-loop
     cast-w
     (λ c. start (asks c))
-    (λ c. omega arith)
-    (λ c. omega arith)
+    (λ c. omega arith) (λ c. omega arith)
     (λ c. simp (toZ-ofZ, weight-fits c) (sum-fits c))
     cast-floor-of
     floor-of-requires
     (λ c. rw (toZ-ofZ (result-fits c)) (part-fits c))
     (λ c. omega arith)
     slice-set-from-parts
-    (λ c. omega arith)
-    (λ c. omega arith)
+    (λ c. omega arith) (λ c. omega arith)
     loop-again
     (λ c. written (asks (c .before .before)) (c .before .loop .inv))
     returns)

@@ -99,11 +99,9 @@ pub state-first-spec : {M : Type 1} → statement M
 state-first-spec =
     tie.close
     (tie.spec
-    (λ c κs. search needs)
-    (λ c κs. search needs)
+    (λ c κs. search needs) (λ c κs. search needs)
     judge-requires
-    (λ c. search needs)
-    (λ c. search needs)
+    (λ c. search needs) (λ c. search needs)
     (λ c. omega (arith, few-agents (told c) (so c)))
     slice-aggregate-write
     slice-relend-prefix-write
@@ -114,7 +112,5 @@ state-first-spec =
     slice-aggregate-write-4
     write-requires
     returns
-    (λ c. search needs)
-    (λ c. search needs)
-    (λ c. search needs)
+    (λ c. search needs) (λ c. search needs) (λ c. search needs)
     returns-2)

@@ -32,7 +32,5 @@ state-lines-spec =
     (λ c κs. search needs)
     slice-aggregate-state-first
     state-first-requires
-    (λ c. search needs)
-    (λ c. search needs)
-    (λ c. search needs)
+    (λ c. search needs) (λ c. search needs) (λ c. search needs)
     returns)

@@ -55,7 +55,5 @@ write-spec =
     (λ c κs. payable (c .before .before .before .pre .2) .lines)
     state-users-requires
     state-payees-requires
-    (λ c. search needs)
-    (λ c. search needs)
-    (λ c. search needs)
+    (λ c. search needs) (λ c. search needs) (λ c. search needs)
     returns)

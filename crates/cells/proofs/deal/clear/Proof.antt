@@ -19,11 +19,7 @@ clear-spec =
     (tie.spec
     Inv-loop
     μ-loop
-    (λ c. omega arith)
-    (λ c. omega arith)
-    (λ c. omega arith)
-    (λ c. omega arith)
-    (λ c. omega arith)
+    (λ c. omega arith) (λ c. omega arith) (λ c. omega arith) (λ c. omega arith) (λ c. omega arith)
     (λ c. (omega arith, simp length-set (c .before .loop .inv .1)))
     (λ c. c .before .loop .inv .1)
     (λ c. search needs))

@@ -96,8 +96,7 @@ take-spec =
     Inv-loop
     μ-loop
     (λ c. (omega arith, kept-none _ _ _))
-    (λ c. omega arith)
-    (λ c. omega arith)
+    (λ c. omega arith) (λ c. omega arith)
     (λ c. here (c .before) .column)
     (λ c. omega (arith, here (c .before .before)))
     (λ c. omega (arith, here (c .before .before)))

@@ -312,8 +312,7 @@ floor-row-spec =
     size-requires
     rate-of-requires
     loop-holds
-    (λ c. omega arith)
-    (λ c. omega arith)
+    (λ c. omega arith) (λ c. omega arith)
     at-rate-requires
     signed-requires
     add-q

@@ -65,8 +65,7 @@ naturals-spec =
     (λ c. omega arith)
     slice-write-debits
     add-sum
-    (λ c. omega arith)
-    (λ c. omega arith)
+    (λ c. omega arith) (λ c. omega arith)
     loop-again
     (λ c. c .before .loop .inv .wrote .long)
     returns)

@@ -129,8 +129,7 @@ place-spec =
     loop-holds
     (λ c. omega arith)
     slice-read-if1
-    (λ c κs. search needs)
-    (λ c κs. search needs)
+    (λ c κs. search needs) (λ c κs. search needs)
     visit-row-requires
     mul-lacks
     slice-read-lacks
@@ -138,8 +137,7 @@ place-spec =
     slice-write-lacks
     loop-less
     loop-again
-    (λ c. omega arith)
-    (λ c. omega arith)
+    (λ c. omega arith) (λ c. omega arith)
     loop-again-2
     (λ c. c .before .loop .inv .kept .cells)
     (λ c. c .before .loop .inv .kept .tall)

@@ -65,9 +65,7 @@ judge-spec =
     tie.close
     (tie.spec
     (λ c κs. held-reach (c .pre .2))
-    (λ c. search needs)
-    (λ c κs. search needs)
-    (λ c. search needs)
+    (λ c. search needs) (λ c κs. search needs) (λ c. search needs)
     slice-aggregate-weighed
     weighed-requires
     returns

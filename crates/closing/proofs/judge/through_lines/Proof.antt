@@ -20,12 +20,9 @@ pub through-lines-spec : {M : Type 1} → statement M
 through-lines-spec =
     tie.close
     (tie.spec
-    (λ c. search needs)
-    (λ c. search needs)
+    (λ c. search needs) (λ c. search needs)
     (λ c κs. c .before .before .pre (c .enum-told .given .1))
-    (λ c. search needs)
-    (λ c. search needs)
-    (λ c κs. search needs)
+    (λ c. search needs) (λ c. search needs) (λ c κs. search needs)
     (λ c points t. rw (c .before .first .given .1))
     returns-2
     returns-3)

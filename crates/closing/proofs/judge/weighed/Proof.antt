@@ -118,15 +118,9 @@ weighed-spec =
     (λ c. uses-reach (c .before .before .before .pre .3))
     slice-aggregate-total
     (λ c κs. total-asked (c .before .before .before .before .pre .3))
-    (λ c κs. search needs)
-    (λ c. search needs)
-    (λ c κs. search needs)
-    (λ c. search needs)
+    (λ c κs. search needs) (λ c. search needs) (λ c κs. search needs) (λ c. search needs)
     bill-requires
-    (λ c κs. search needs)
-    (λ c. search needs)
-    (λ c κs. search needs)
-    (λ c. search needs)
+    (λ c κs. search needs) (λ c. search needs) (λ c κs. search needs) (λ c. search needs)
     returns
     returns-2
     returns-3)

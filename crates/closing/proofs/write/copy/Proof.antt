@@ -40,12 +40,9 @@ copy-spec =
     Inv-loop
     μ-loop
     (λ c. filling-none _ _)
-    (λ c. search needs)
-    (λ c. search needs)
-    (λ c. search needs)
+    (λ c. search needs) (λ c. search needs) (λ c. search needs)
     slice-set-from-to
-    (λ c. search needs)
-    (λ c. search needs)
+    (λ c. search needs) (λ c. search needs)
     loop-again
     (λ c. filling-long (c .before .before .pre) (c .before .loop .inv))
     returns)

@@ -100,7 +100,5 @@ write-spec =
     array-share-prefix-credits
     slice-aggregate-copy
     copy-requires
-    (λ c. search needs)
-    (λ c. search needs)
-    (λ c. search needs)
+    (λ c. search needs) (λ c. search needs) (λ c. search needs)
     returns)

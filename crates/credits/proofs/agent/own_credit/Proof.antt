@@ -64,9 +64,7 @@ pub own-credit-spec : {M : Type 1} → statement M
 own-credit-spec =
     tie.close
     (tie.spec
-    (λ c κs. search needs)
-    (λ c κs. search needs)
-    (λ c. search needs)
+    (λ c κs. search needs) (λ c κs. search needs) (λ c. search needs)
     vmpa-requires
     add-result
     (λ c. search needs)

@@ -43,8 +43,7 @@ pub vmst-spec : {M : Type 1} → statement M
 vmst-spec =
     tie.close
     (tie.spec
-    (λ c. search needs)
-    (λ c. search needs)
+    (λ c. search needs) (λ c. search needs)
     (λ c. search two)
     (λ c. search needs)
     (λ c. search three)

@@ -48,14 +48,9 @@ column-spec =
     Inv-loop
     μ-loop
     (λ c. filling-none _ _)
-    (λ c. search needs)
-    (λ c. search needs)
-    (λ c. search needs)
-    (λ c. search needs)
-    (λ c. search needs)
+    (λ c. search needs) (λ c. search needs) (λ c. search needs) (λ c. search needs) (λ c. search needs)
     slice-set-from-out
-    (λ c. search needs)
-    (λ c. search needs)
+    (λ c. search needs) (λ c. search needs)
     loop-again
     (λ c. filling-long (same (c .before .before)) (c .before .loop .inv))
     returns)

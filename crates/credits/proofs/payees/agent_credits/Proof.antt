@@ -123,11 +123,8 @@ agent-credits-spec =
     (λ c κs. search needs)
     total-requires
     smse-requires
-    (λ c κs. search needs)
-    (λ c κs. search needs)
+    (λ c κs. search needs) (λ c κs. search needs)
     fill-requires
     add-each-requires
-    (λ c. search needs)
-    (λ c. search needs)
-    (λ c. search needs)
+    (λ c. search needs) (λ c. search needs) (λ c. search needs)
     returns)

@@ -78,13 +78,11 @@ own-credits-spec =
     Inv-loop
     μ-loop
     (λ c. filling-none _ _)
-    (λ c. search needs)
-    (λ c. search needs)
+    (λ c. search needs) (λ c. search needs)
     own-credit-requires
     (λ c. search needs)
     slice-set-from-out
-    (λ c. search needs)
-    (λ c. search needs)
+    (λ c. search needs) (λ c. search needs)
     loop-again
     (λ c. filling-long (same (c .before .before)) (c .before .loop .inv))
     returns)

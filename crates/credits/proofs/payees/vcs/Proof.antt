@@ -50,7 +50,5 @@ vcs-spec =
     (λ c. search needs)
     (λ c. sym (length-take-le _ _ (omega arith)))
     agent-credits-requires
-    (λ c. search needs)
-    (λ c. search needs)
-    (λ c. search needs)
+    (λ c. search needs) (λ c. search needs) (λ c. search needs)
     returns)

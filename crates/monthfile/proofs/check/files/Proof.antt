@@ -71,8 +71,7 @@ files-spec =
     Inv-loop
     μ-loop
     (λ c. (refl, same-start _))
-    (λ c κs. search needs)
-    (λ c. search needs)
+    (λ c κs. search needs) (λ c. search needs)
     returns
     loop-less
     loop-again

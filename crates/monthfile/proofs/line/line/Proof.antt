@@ -47,14 +47,11 @@ line-spec =
     Inv-loop
     μ-loop
     (λ c. (omega arith, (omega arith, λ f. refl)))
-    (λ c κs. omega arith)
-    (λ c. search needs)
-    (λ c. search needs)
+    (λ c κs. omega arith) (λ c. search needs) (λ c. search needs)
     returns
     (λ c. search needs)
     returns-2
-    (λ c. omega arith)
-    (λ c. omega arith)
+    (λ c. omega arith) (λ c. omega arith)
     loop-again
     (λ c κs. omega arith)
     returns-3)

@@ -65,13 +65,10 @@ lines-spec =
     (λ c. (omega arith, (omega arith, λ f. refl)))
     (λ c κs. omega arith)
     returns
-    (λ c κs. omega arith)
-    (λ c. search needs)
-    (λ c. search needs)
+    (λ c κs. omega arith) (λ c. search needs) (λ c. search needs)
     returns-2
     (λ c. search needs)
     returns-3
-    (λ c. omega arith)
-    (λ c. omega arith)
+    (λ c. omega arith) (λ c. omega arith)
     loop-again
     returns-4)

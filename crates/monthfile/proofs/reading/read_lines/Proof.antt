@@ -33,8 +33,5 @@ read-lines-spec =
     (λ c. room-for _ _ _ _ _ _ _ _ (c .before .before .judged .ensures) .1)
     slice-aggregate-points-at
     points-at-requires
-    (λ c κs. search needs)
-    (λ c. search needs)
-    (λ c. search needs)
-    (λ c. search needs)
+    (λ c κs. search needs) (λ c. search needs) (λ c. search needs) (λ c. search needs)
     returns)

@@ -30,12 +30,7 @@ users-at-spec =
     Inv-loop
     μ-loop
     (λ c. filling-none _ _ _ _ (omega arith))
-    (λ c κs. omega arith)
-    (λ c. search needs)
-    (λ c κs. omega arith)
-    (λ c. omega arith)
-    (λ c. omega arith)
-    (λ c. omega arith)
+    (λ c κs. omega arith) (λ c. search needs) (λ c κs. omega arith) (λ c. omega arith) (λ c. omega arith) (λ c. omega arith)
     (λ c. omega arith)
     loop-again
     (λ c. c .before .before .before .loop .inv .same-length)

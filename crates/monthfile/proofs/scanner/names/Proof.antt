@@ -50,12 +50,9 @@ names-spec =
     μ-loop
     (λ c. (omega arith, (omega arith, λ f. refl)))
     returns
-    (λ c. omega arith)
-    (λ c. omega arith)
+    (λ c. omega arith) (λ c. omega arith)
     returns-2
-    (λ c. omega arith)
-    (λ c. omega arith)
-    (λ c. omega arith)
+    (λ c. omega arith) (λ c. omega arith) (λ c. omega arith)
     loop-again
     (λ c κs. omega arith)
     returns-3)

@@ -24,8 +24,7 @@ next-block-spec =
     (tie.spec
     (λ c. search needs)
     block-requires
-    (λ c. search needs)
-    (λ c. search needs)
+    (λ c. search needs) (λ c. search needs)
     returns
     returns-2
     returns-3)

@@ -46,10 +46,7 @@ more-digits-spec =
     μ-loop
     (λ c κs. search needs)
     (λ c. (omega arith, (omega arith, behind-none _ _)))
-    (λ c. omega arith)
-    (λ c κs. search needs)
-    (λ c. omega arith)
-    (λ c. omega arith)
+    (λ c. omega arith) (λ c κs. search needs) (λ c. omega arith) (λ c. omega arith)
     loop-again
     returns
     returns-2)

@@ -82,15 +82,11 @@ digits-at-spec =
     μ-loop
     loop-holds
     returns
-    (λ c. omega arith)
-    (λ c κs. search needs)
-    (λ c κs. search needs)
+    (λ c. omega arith) (λ c κs. search needs) (λ c κs. search needs)
     mul-number
     sub-number
     add-number
-    (λ c. omega arith)
-    (λ c. omega arith)
-    (λ c. omega arith)
+    (λ c. omega arith) (λ c. omega arith) (λ c. omega arith)
     loop-again
     returns-2
     returns-3)

@@ -38,11 +38,7 @@ line-at-spec =
     Inv-loop
     μ-loop
     (λ c. ((refl, omega arith), (omega arith, (refl, row-none _ _ _))))
-    (λ c κs. omega arith)
-    (λ c. omega arith)
-    (λ c. omega arith)
-    (λ c. omega arith)
-    (λ c. omega arith)
+    (λ c κs. omega arith) (λ c. omega arith) (λ c. omega arith) (λ c. omega arith) (λ c. omega arith)
     (λ c κs. c .before .value-at .ensures .within)
     (λ c. omega arith)
     loop-again

@@ -16,12 +16,8 @@ value-at-spec =
     tie.close
     (tie.spec
     (λ c. no-value _ _ (omega arith) (c .if1 .taken))
-    (λ c. search needs)
-    (λ c. search needs)
-    (λ c κs. search needs)
-    (λ c. search needs)
+    (λ c. search needs) (λ c. search needs) (λ c κs. search needs) (λ c. search needs)
     (λ c. minus-fits _ (c .before .digits-at .ensures .small))
     returns-2
-    (λ c κs. search needs)
-    (λ c. search needs)
+    (λ c κs. search needs) (λ c. search needs)
     returns-3)

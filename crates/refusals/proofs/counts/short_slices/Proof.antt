@@ -46,9 +46,7 @@ short-slices-spec =
     returns
     returns-2
     mul-if3
-    (λ c. search needs)
-    (λ c. search needs)
-    (λ c. search needs)
+    (λ c. search needs) (λ c. search needs) (λ c. search needs)
     add-if3-3
     returns-3
     returns-4)

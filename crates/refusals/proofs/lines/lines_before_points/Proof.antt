@@ -39,9 +39,6 @@ lines-before-points-spec =
     (tie.spec
     (λ c κs. search needs)
     returns
-    (λ c κs. search needs)
-    (λ c. search needs)
-    (λ c. search needs)
-    (λ c κs. search needs)
+    (λ c κs. search needs) (λ c. search needs) (λ c. search needs) (λ c κs. search needs)
     returns-2
     returns-3)

@@ -58,10 +58,8 @@ point-verdict-spec =
     (tie.spec
     (λ c κs. search needs)
     (λ c. rw (sym (c .before .bad-point .ensures) ∙ c .if1 .taken))
-    (λ c. search needs)
-    (λ c κs. search needs)
+    (λ c. search needs) (λ c κs. search needs)
     returns-2
-    (λ c κs. search needs)
-    (λ c κs. search needs)
+    (λ c κs. search needs) (λ c κs. search needs)
     returns-3
     returns-4)

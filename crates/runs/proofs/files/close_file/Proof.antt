@@ -17,8 +17,4 @@ close-file-spec =
     (λ c. sym (length-take-le _ _ (search needs)))
     (λ c. sym (length-take-le _ _ (search needs)))
     close-requires
-    (λ c κs. search needs)
-    (λ c. search needs)
-    (λ c. search needs)
-    (λ c. search needs)
-    (λ c. search needs))
+    (λ c κs. search needs) (λ c. search needs) (λ c. search needs) (λ c. search needs) (λ c. search needs))

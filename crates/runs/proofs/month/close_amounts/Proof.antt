@@ -14,15 +14,11 @@ pub close-amounts-spec : {M : Type 1} → statement M
 close-amounts-spec =
     tie.close
     (tie.spec
-    (λ c. search needs)
-    (λ c. search needs)
+    (λ c. search needs) (λ c. search needs)
     (λ c. sym (length-take-le _ _ (search needs)))
     (λ c. search needs)
     (λ c. sym (length-take-le _ _ (search needs)))
     (λ c. search needs)
     (λ c. sym (length-take-le _ _ (search needs)))
     state-and-close-requires
-    (λ c. search needs)
-    (λ c. search needs)
-    (λ c. search needs)
-    (λ c. search needs))
+    (λ c. search needs) (λ c. search needs) (λ c. search needs) (λ c. search needs))

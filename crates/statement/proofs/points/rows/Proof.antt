@@ -68,14 +68,11 @@ rows-spec =
     Inv-loop
     μ-loop
     (λ c. filling-none _ _)
-    (λ c. search needs)
-    (λ c. search needs)
-    (λ c κs. search needs)
+    (λ c. search needs) (λ c. search needs) (λ c κs. search needs)
     row-requires
     (λ c. search needs)
     slice-set-from-out
-    (λ c. search needs)
-    (λ c. search needs)
+    (λ c. search needs) (λ c. search needs)
     loop-again
     (λ c. filling-long (same (c .before .before)) (c .before .loop .inv))
     returns)

@@ -49,7 +49,5 @@ work-out-spec =
     charge-requires
     compensate-requires
     rows-requires
-    (λ c. search needs)
-    (λ c. search needs)
-    (λ c. search needs)
+    (λ c. search needs) (λ c. search needs) (λ c. search needs)
     returns)

@@ -127,8 +127,7 @@ divide-spec =
     (λ c. shift-fits c)
     (λ c. shift-lt (c .before))
     (λ c. omega (arith, shift-lt (c .before .before)))
-    (λ c. search needs)
-    (λ c. search needs)
+    (λ c. search needs) (λ c. search needs)
     add-high
     (λ c. shift-fits (c .before .before))
     (λ c. shift-lt (c .before .before .before))
