@@ -10,7 +10,9 @@ pub mod Charges
 pub mod Credits
 pub mod Table
 pub mod Refusals
+pub mod Limits
 pub mod Tested
 pub mod Calls
 pub mod Tally
 pub mod Demand
+pub mod Demand1
