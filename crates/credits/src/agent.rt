@@ -50,7 +50,7 @@ pub fn vmst(line: AgentLine) -> i64
 }
 
 // VMST + VMPA + ret.
-pub fn own_credit(month: i64, line: AgentLine) -> i64
+pub(crate) fn own_credit(month: i64, line: AgentLine) -> i64
     requires { ⌜ (impossibleMonth month ≡ false) × AmountsFit (agentOf line) ⌝ }
     ensures { λ r. ⌜ r ≡ ownCredit month (agentOf line) ⌝ }
 {

@@ -58,7 +58,7 @@ fn column(agents: &[AgentLine], k: usize, out: &mut [i64])
 }
 
 // Writes all pb, the weights of the balance.
-pub fn pbs(agents: &[AgentLine], out: &mut [i64])
+pub(crate) fn pbs(agents: &[AgentLine], out: &mut [i64])
     requires { ⌜ length (now out) ≡ length (now agents) ⌝ }
     ensures { λ _. ⌜ now (out .exit) ≡ pbs (map agentOf (now (agents .entry))) ⌝ }
 {

@@ -20,7 +20,7 @@ use rules::AgentLine;
 use rules::MonthLine;
 
 // Writes VMST + VMPA + ret of each agent.
-pub fn own_credits(line: MonthLine, agents: &[AgentLine], out: &mut [i64])
+fn own_credits(line: MonthLine, agents: &[AgentLine], out: &mut [i64])
     requires { ⌜ (impossibleMonth (line .month) ≡ false)
         × AgentLines (map agentOf (now agents))
         × (length (now out) ≡ length (now agents)) ⌝ }
@@ -35,7 +35,7 @@ pub fn own_credits(line: MonthLine, agents: &[AgentLine], out: &mut [i64])
 }
 
 // Balance SMSE: what the users owe, less what the agents receive of their own, less ons.
-pub fn smse(debits: i64, own: i64, ons: i64) -> i64
+fn smse(debits: i64, own: i64, ons: i64) -> i64
     requires { ⌜ Within (pos 0) (pos mostDebits) debits × (abs own ≤ mostOwn) × Amount ons ⌝ }
     ensures { λ r. ⌜ r ≡ debits -ℤ own -ℤ ons ⌝ }
 {

@@ -26,7 +26,7 @@ pub fn point_of(line: PointLine) -> Point
 }
 
 // The line of a record.
-pub fn line_of(p: Point) -> PointLine
+fn line_of(p: Point) -> PointLine
     ensures { λ r. ⌜ pointOf r ≡ p ⌝ }
 {
     [p.user, p.tp, p.tf, p.dp, p.df, p.mp, p.mf, p.vp, p.vf]

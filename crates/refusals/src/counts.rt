@@ -28,7 +28,7 @@ pub fn bad_counts(ledger: Ledger, users: u64, agents: u64, points: u64) -> bool
 }
 
 // 2: the first slice that is too short, for counts that passed 1; month and credits play no part.
-pub fn short_slices(users: u64, agents: u64, held: u64, cells: u64, work: u64) -> Answer
+fn short_slices(users: u64, agents: u64, held: u64, cells: u64, work: u64) -> Answer
     requires { ⌜ (users ≤ 512) × (agents ≤ 256) ⌝ }
     ensures { λ r. ⌜ ((month : ℤ) (credits : List ℤ) → verdictOf r
         ≡ shortSlices (record { users = users; agents = agents; month = month; credits = credits }) (record { held = held; cells = cells; work = work })) ⌝ }

@@ -19,13 +19,13 @@ const AMOUNT: i64 = 100_000_000_000;
 // 10^17, the limit of held credits.
 const CREDIT: i64 = 100_000_000_000_000_000;
 
-pub fn bad_amount(x: i64) -> bool
+fn bad_amount(x: i64) -> bool
     ensures { λ r. ⌜ r ≡ badAmount x ⌝ }
 {
     ints::outside(0, AMOUNT, x)
 }
 
-pub fn bad_correction(x: i64) -> bool
+fn bad_correction(x: i64) -> bool
     ensures { λ r. ⌜ r ≡ badCorrection x ⌝ }
 {
     ints::outside(-AMOUNT, AMOUNT, x)
@@ -63,7 +63,7 @@ fn bad_amounts(pb: i64, pv: i64, afs: i64, rfs: i64) -> bool
 }
 
 // 5 of the agent line at position k.
-pub fn bad_agent(k: u64, line: AgentLine) -> bool
+fn bad_agent(k: u64, line: AgentLine) -> bool
     ensures { λ r. ⌜ r ≡ badAgent k (agentOf line) ⌝ }
 {
     !is_number(line[columns::AGENT_NUMBER], k)
@@ -77,7 +77,7 @@ pub fn bad_agent(k: u64, line: AgentLine) -> bool
         | bad_correction(line[columns::AGENT_RET])
 }
 
-pub fn agents_verdict(agents: &[AgentLine]) -> Answer
+fn agents_verdict(agents: &[AgentLine]) -> Answer
     ensures { λ r. ⌜ verdictOf r ≡ eachLine agentTest 1 (map agentOf (now (agents .entry))) ⌝ }
 {
     let mut i: usize = 0;
@@ -91,7 +91,7 @@ pub fn agents_verdict(agents: &[AgentLine]) -> Answer
 }
 
 // 5 of the user line at position k.
-pub fn bad_user(k: u64, line: UserLine) -> bool
+fn bad_user(k: u64, line: UserLine) -> bool
     ensures { λ r. ⌜ r ≡ badUser k (userOf line) ⌝ }
 {
     !is_number(line[columns::USER_NUMBER], k)
@@ -99,7 +99,7 @@ pub fn bad_user(k: u64, line: UserLine) -> bool
         | bad_correction(line[columns::USER_RET])
 }
 
-pub fn users_verdict(users: &[UserLine]) -> Answer
+fn users_verdict(users: &[UserLine]) -> Answer
     ensures { λ r. ⌜ verdictOf r ≡ eachLine userTest 1 (map userOf (now (users .entry))) ⌝ }
 {
     let mut i: usize = 0;

@@ -4,7 +4,7 @@ ghost use Rattle.rules.specs.Calendar.{impossibleMonth};
 ghost use Rattle.rules.specs.Refusals.{badMonth};
 
 // No month: outside 200001 to 209912, or mm outside 01 to 12. The range comes first: past it % is mm, as m is above 0.
-pub fn impossible_month(m: i64) -> bool
+pub(crate) fn impossible_month(m: i64) -> bool
     ensures { λ r. ⌜ r ≡ impossibleMonth m ⌝ }
 {
     if ints::outside(200_001, 209_912, m) {

@@ -35,14 +35,14 @@ fn bad_band(tariff: i64, discount: i64, contracted: i64, verified: i64) -> bool
 }
 
 // 5 of a point line.
-pub fn bad_point(p: Point) -> bool
+fn bad_point(p: Point) -> bool
     ensures { λ r. ⌜ r ≡ badPoint p ⌝ }
 {
     bad_band(p.tp, p.dp, p.mp, p.vp) | bad_band(p.tf, p.df, p.mf, p.vf)
 }
 
 // 7 of a point line whose user has this kind: a generator's f column or a distributor's discount that is not 0.
-pub fn unfit_point(kind: i64, p: Point) -> bool
+fn unfit_point(kind: i64, p: Point) -> bool
     ensures { λ r. ⌜ r ≡ unfitPoint kind p ⌝ }
 {
     (kind == 3) & ((p.tf != 0) | (p.df != 0) | (p.mf != 0) | (p.vf != 0))

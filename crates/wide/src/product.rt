@@ -4,20 +4,20 @@ ghost use Prim.Native.Nat.{_+_, _*_, _/_, _%_, _^_};
 ghost use Rattle.wide.specs.Exact.{words};
 use super::Words;
 
-pub fn low_half(x: u64) -> u64
+fn low_half(x: u64) -> u64
     ensures { λ r. ⌜ r ≡ x % 2 ^ 32 ⌝ }
 {
     x & 0xffff_ffff
 }
 
-pub fn high_half(x: u64) -> u64
+fn high_half(x: u64) -> u64
     ensures { λ r. ⌜ r ≡ x / 2 ^ 32 ⌝ }
 {
     x >> 32
 }
 
 // x + y, the carry as the high word: a sum that wrapped is below each of its terms.
-pub fn add(x: u64, y: u64) -> Words
+fn add(x: u64, y: u64) -> Words
     ensures { λ r. ⌜ r ≡ words (x + y) ⌝ }
 {
     let low = std::num::wrapping_add_u64(x, y);
