@@ -40,9 +40,6 @@ line-vals = array-vals (sint-vals w64)
 pub line-tells : Tells Rl (Is Rl) line-vals
 line-tells = array-tells i64 (sint-vals w64) (sint-tells w64) 9
 
-pub line-count : (ls : List (List ℤ)) (vs : List Val) → Is Rls ls vs → length ls ≡ 1024
-line-count ls vs is = is .1 .0 .1
-
 module _ {M : Type 1} (𝓤 : URA M) (H : Heap 𝓤) (A : Atoms 𝓤) (W : Given 𝓤 H A) where
   pub line-typed : (l : List ℤ) (vs : List Val) → Is Rl l vs → Typed (Rl .mir) vs
   line-typed = array-lawful 𝓤 H A W i64 (sint-lawful 𝓤 H A W w64) 9 .typed

@@ -3,7 +3,7 @@
 ghost use mathlib.Core.Path.{_≡_};
 ghost use Prim.Native.Nat.{min};
 ghost use Rattle.rules.specs.Lines.{pointOf};
-ghost use Rattle.records.specs.Taking.{Takes};
+ghost use Rattle.records.specs.Taking.{lineOf, noLines, Takes};
 use rules::Point;
 use rules::PointLine;
 use rules::columns;
@@ -27,7 +27,7 @@ pub fn point_of(line: PointLine) -> Point
 
 // The line of a record.
 fn line_of(p: Point) -> PointLine
-    ensures { λ r. ⌜ pointOf r ≡ p ⌝ }
+    ensures { λ r. ⌜ r ≡ lineOf p ⌝ }
 {
     [p.user, p.tp, p.tf, p.dp, p.df, p.mp, p.mf, p.vp, p.vf]
 }
@@ -39,11 +39,13 @@ pub fn taken_count(points: usize) -> usize
     if points < 1024 { points } else { 1024 }
 }
 
-fn no_lines() -> [PointLine; 1024] {
+fn no_lines() -> [PointLine; 1024]
+    ensures { λ r. ⌜ r ≡ noLines ⌝ }
+{
     [[0i64; 9]; 1024]
 }
 
-// The first 1,024 points as lines.
+// The first 1,024 points as lines, and lines of zeros after them.
 pub fn taken(points: &[Point]) -> [PointLine; 1024]
     ensures { λ r. ⌜ Takes (now (points .entry)) r ⌝ }
 {

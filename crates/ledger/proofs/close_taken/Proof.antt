@@ -2,15 +2,15 @@
 use native.Mathlib.Omega.{arith}
 use borrow.Author.Needs.{needs}
 use lib.ListN.{length-take}
-use Rattle.records.proofs.Taking.{first-taken}
+use Rattle.records.proofs.Taking.{taken-all, first-taken}
 use Rattle.ledger.proofs.close_taken.Statement.{statement}
 use Rattle.ledger.proofs.close_taken.Tie as tie
 
 slice-aggregate-close-first : tie.Need-slice-aggregate-close-first
 slice-aggregate-close-first c =
     let d = c .before .before in
-    let a = d .before .before .args in
-    omega (arith, length-take (d .taken-count .result) (a .t7), d .taken-count .ensures, d .before .before .pre .1 .1 .count)
+    let s = d .before .before in
+    omega (arith, length-take (d .taken-count .result) (s .args .t7), d .taken-count .ensures, taken-all (s .pre .0) (s .args .t7) (s .pre .1 .1))
 
 close-first-requires : tie.Need-close-first-requires
 close-first-requires c κs =

@@ -53,9 +53,9 @@ use Rattle.rules.specs.declared.Point.{Point}
 use Rattle.rules.specs.Lines.{pointOf}
 use Rattle.rules.proofs.Point as T
 use Rattle.rules.proofs.Point.Laws as T′
-use Rattle.records.specs.Taking.{Takes}
+use Rattle.records.specs.Taking.{lineOf, noLines, Takes}
 use Rattle.records.proofs.Lines.{Rl, Rls, lines-type, line-vals, line-tells, line-typed, line-makes}
-use Rattle.records.proofs.Lines.{lines-typed, lines-makes, line-count, apart, together}
+use Rattle.records.proofs.Lines.{lines-typed, lines-makes, apart, together}
 use Rattle.records.proofs.Taking.{Counted, Facts, start-facts, next-facts, end-fact}
 use Rattle.records.proofs.Walking.{bare, full, locals, free-all, places}
 use Rattle.records.proofs.taken_count as count
@@ -157,14 +157,17 @@ module _ {M : Type 1} (𝓤 : URA M) (H : Heap 𝓤) (A : Atoms 𝓤) (W : Given
   goes-none : ent 𝓤 (emp 𝓤) (None 𝓤 H A mem run .pre to-none)
   goes-none = qed W [] ∵ nothing ! $ nothing ! $ join ! $ frame ! $ done !
 
+  none-said : (ls : List (List ℤ)) → ent 𝓤 (ensured 𝓤 H A no-lines.ended (no-lines.clauses 𝓤 H A mem run) tt tt tt ls) (fact 𝓤 (ls ≡ noLines))
+  none-said ls = exE 𝓤 _ (λ ws. snd∗ 𝓤 (sem 𝓤 H A (lasts no-lines.ended tt tt ws)) (fact 𝓤 (ls ≡ noLines)))
+
   abbrev to-line : Point → Line 𝓤 H A mem run .Ghost
   to-line p = ((tt, tt, tt, (p, tt), (T′.lowered p ∷ [], tt)), tt)
 
   goes-line : (p : Point) → Is Rp p (T′.lowered p ∷ []) → ent 𝓤 (emp 𝓤) (Line 𝓤 H A mem run .pre (to-line p))
   goes-line p is = qed W [] ∵ nothing ! $ owned ! Rp (Is Rp) (LL.makes T.the-type T′.the-plain 𝓤 H A) p _ is $ fjoin ! $ nothing ! $ join ! $ frame ! $ done !
 
-  line-said : (p : Point) (l : List ℤ) → ent 𝓤 (ensured 𝓤 H A line-of.ended (line-of.clauses 𝓤 H A mem run) tt (p, tt) tt l) (fact 𝓤 (pointOf l ≡ p))
-  line-said p l = exE 𝓤 _ (λ ws. snd∗ 𝓤 (sem 𝓤 H A (lasts line-of.ended tt (p, tt) ws)) (fact 𝓤 (pointOf l ≡ p)))
+  line-said : (p : Point) (l : List ℤ) → ent 𝓤 (ensured 𝓤 H A line-of.ended (line-of.clauses 𝓤 H A mem run) tt (p, tt) tt l) (fact 𝓤 (l ≡ lineOf p))
+  line-said p l = exE 𝓤 _ (λ ws. snd∗ 𝓤 (sem 𝓤 H A (lasts line-of.ended tt (p, tt) ws)) (fact 𝓤 (l ≡ lineOf p)))
 
   module _ (𝓣 : Tables 𝓤 H) (fm : FmC 𝓤 H (W .laws) (𝓣 .C)) (known-count : Triple 𝓤 (𝓣 .C #count) (Count 𝓤 H A mem run)) (known-none
       : Triple 𝓤 (𝓣 .C #no-lines) (None 𝓤 H A mem run))
@@ -234,7 +237,7 @@ module _ {M : Type 1} (𝓤 : URA M) (H : Heap 𝓤) (A : Atoms 𝓤) (W : Given
             calls-at ! fm (Line 𝓤 H A mem run) known-line (to-line p) (and-then ! (load ! (from ! (stop !)) (look ! (at 3 11) refl)) (no-more !)) (λ u.
             use1 W (later (some (λ (x : List ℤ). (‵ ftrue ⊛ ‵ (Rl .own x (u ∷ [])))
             ⊛ raw (ensured 𝓤 H A line-of.ended (line-of.clauses 𝓤 H A mem run) tt (p, tt) tt x)))) (id⊢ 𝓤 _) $ await ! tt $ pick ! (λ x.
-            split ! $ move ! (1 ∷ []) $ use1 W (raw (fact 𝓤 (pointOf x ≡ p))) (line-said p x) $ heard ! (pointOf x ≡ p) (λ e. split ! $ drop ! $
+            split ! $ move ! (1 ∷ []) $ use1 W (raw (fact 𝓤 (x ≡ lineOf p))) (line-said p x) $ heard ! (x ≡ lineOf p) (λ e. split ! $ drop ! $
             peeks ! Rl (Is Rl) (shows 𝓤 H A Rl) x (u ∷ []) (λ isx. land ! (from ! (stop !)) (init ! (at 3 8) refl (line-typed 𝓤 H A W x _ isx .0)) $ drop ! $
             -- it is stored in place
             assigns ! (bin ! (load ! (from ! (stop !)) (look ! (at 2 4) refl)) (lit ! tt) (record { fits = bytes-fit i few })) (from ! (stop !))
@@ -283,7 +286,7 @@ module _ {M : Type 1} (𝓤 : URA M) (H : Heap 𝓤) (A : Atoms 𝓤) (W : Given
           calls-at ! fm (None 𝓤 H A mem run) known-none to-none (no-more !) (λ v.
           use1 W (later (some (λ (ls : List (List ℤ)). (‵ ftrue ⊛ ‵ (Rls .own ls (v ∷ [])))
           ⊛ raw (ensured 𝓤 H A no-lines.ended (no-lines.clauses 𝓤 H A mem run) tt tt tt ls)))) (id⊢ 𝓤 _) $ await ! tt $ pick ! (λ ls.
-          split ! $ move ! (1 ∷ []) $ drop ! $ split ! $ drop ! $
+          split ! $ move ! (1 ∷ []) $ use1 W (raw (fact 𝓤 (ls ≡ noLines))) (none-said ls) $ heard ! (ls ≡ noLines) (λ zeros. split ! $ drop ! $
           peeks ! Rls (Is Rls) (shows 𝓤 H A Rls) ls (v ∷ []) (λ is. land ! (from ! (stop !)) (init ! (at 3 6) refl (lines-typed 𝓤 H A W ls _ is .0)) $ drop ! $
           assigns ! (of-opd ! (load ! (from ! (stop !)) (look ! (at 2 6) refl))) (from ! (stop !)) (init ! (at 2 3) refl (lines-typed 𝓤 H A W ls _ is .0)) $
           assigns ! (of-opd ! (lit ! tt)) (from ! (stop !)) (init ! (at 2 4) refl (tt, record { fits = lit< tt })) $
@@ -291,8 +294,8 @@ module _ {M : Type 1} (𝓤 : URA M) (H : Heap 𝓤) (A : Atoms 𝓤) (W : Given
           places ! (at 2 3) $
           first ! $ blocks ! $ loops ! 𝓣 (≺ ys n) (wf ys n) (I n counted) (λ y. turn n counted y (ltb (y .0) n) refl) (
             0,
-            (ls, start-facts ys n ls (line-count ls _ is)),
-          ))))))))
+            (ls, start-facts ys n ls zeros),
+          )))))))))
 
     walk : ent 𝓤 (onEntry 𝓤 H A taken.signature (κ, tt) (q, tt) (ps, tt) vals) (WpFn 𝓤 H (𝓣 .C) (𝓣 .Λ) code.function (vp ∷ []) Post)
     walk =

@@ -2,7 +2,7 @@
 use native.Mathlib.Omega.{arith}
 use borrow.Author.Needs.{needs}
 use lib.ListN.{length-take}
-use Rattle.records.proofs.Taking.{first-taken}
+use Rattle.records.proofs.Taking.{taken-all, first-taken}
 use Rattle.statement.proofs.state_taken.Statement.{statement}
 use Rattle.statement.proofs.state_taken.Tie as tie
 
@@ -10,7 +10,7 @@ slice-aggregate-state-first : tie.Need-slice-aggregate-state-first
 slice-aggregate-state-first c =
     let d = c .before in
     let a = d .before .args in
-    omega (arith, length-take (d .taken-count .result) (a .t7), d .taken-count .ensures, d .before .pre .1 .1 .count)
+    omega (arith, length-take (d .taken-count .result) (a .t7), d .taken-count .ensures, taken-all (d .before .pre .0) (a .t7) (d .before .pre .1 .1))
 
 state-first-requires : tie.Need-state-first-requires
 state-first-requires c κs =
