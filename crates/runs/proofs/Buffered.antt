@@ -3,6 +3,7 @@ use Prim.Native.Nat.{ℕ, _+_, _*_, _≤_, _<_}
 use native.Mathlib.Nat.{mul-le-mul}
 use native.Mathlib.Omega.{arith}
 use mathlib.Core.Path.{_≡_, refl, sym, ap, _∙_, subst}
+use mathlib.Core.Bool.{Bool, true, false, cond}
 use mathlib.Core.List.{List}
 use lib.IntN.{ℤ}
 use lib.ListN.{length, take}
@@ -13,15 +14,22 @@ use Rattle.format.specs.Reading.{reading, ReadingAnswer, accepted, refused, Say
 use Rattle.format.proofs.Answers.{reads}
 use Rattle.format.proofs.FileByFile.{next-within}
 use Rattle.rules.specs.declared.Ledger.{Ledger}
+use Rattle.rules.specs.declared.Answer.{Answer}
+use Rattle.rules.specs.declared.Answer.the-variants as Answers
+use Rattle.rules.specs.declared.Outcome.{Outcome}
+use Rattle.rules.specs.Calls.{Opens}
 use Rattle.monthfile.specs.Reads.{asLines, answered, Reads}
 use Rattle.monthfile.specs.declared.reading.Header.{Header}
 use Rattle.monthfile.specs.declared.reading.Reading.{Reading}
 use Rattle.monthfile.specs.declared.reading.Reading.the-variants.{Accepted, Refused}
-use Rattle.runs.specs.Runs.{InputWithin, Counted, Begins, Buffers, Rows, Lies, GoesTo, GoesOn}
+use Rattle.runs.specs.Runs.{InputWithin, Counted, OpensBooks, begunOn, BegunBy, Begins, Buffers, Rows, Lies, stepAfter, GoesTo, GoesOn}
 use Rattle.runs.specs.declared.input.Input.{Input}
 use Rattle.runs.specs.declared.input.Input.the-variants.{Text}
 use Rattle.runs.specs.declared.files.Begun.{Begun}
-use Rattle.runs.specs.declared.files.Begun.the-variants.{File}
+use Rattle.runs.specs.declared.files.Begun.the-variants.{File, Refused as Refusal}
+use Rattle.runs.specs.declared.files.Books.{Books}
+use Rattle.runs.specs.declared.files.Books.the-variants.{Shut, Open}
+use Rattle.runs.specs.declared.month.Closing.{Closing}
 use Rattle.runs.specs.declared.files.Step.{Step}
 use Rattle.runs.specs.declared.files.Step.the-variants.{Next, Over}
 
@@ -48,16 +56,57 @@ module _ (a u p : ℕ) (t : List ℕ) (from : ℕ) (h : Header) where
           }
       by (refused n q) _ s e = let z : _≡_ {A = ℕ} 0 1 = cc in omega arith
 
-module _
-    (t : List ℕ) (from : ℕ)
-    (ags us ps ags′ us′ ps′ : List (List ℤ))
-    (r : Reading) (x : Reads asLines t from ags us ps ags′ us′ ps′ r)
-    (h : Header) (e : r ≡ Accepted h) where
-  pub file-counts : Counted (length ags) (length us) (length ps) from (length t) h
-  file-counts = counted (length ags) (length us) (length ps) t from h (sym e ∙ x .answer)
+-- ---- the ledger for a file, and what a file comes to
+module _ (users agents : ℕ) (held : List ℤ) where
+  pub opened-shut : (books : Books) (r : Outcome) (held′ : List ℤ) → books ≡ Shut → Opens users agents held r held′ → OpensBooks books users agents held r held′
+  opened-shut books r held′ e o = subst (λ (b : Books). OpensBooks b users agents held r held′) (sym e) o
 
-pub begun-counts : {a u p from most : ℕ} {h : Header} {l : Ledger} {b : Begun} → Begins a u p from most b → b ≡ File h l → Counted a u p from most h
-begun-counts {a} {u} {p} {from} {most} g e = subst (Begins a u p from most) e g
+  pub opened-open :
+      (books : Books) (g : Ledger)
+      → books ≡ Open g
+      → OpensBooks books users agents held (record { answer = Answers.Accepted; ledger = g }) held
+  opened-open books g e =
+      subst (λ (b : Books). OpensBooks b users agents held (record { answer = Answers.Accepted; ledger = g }) held) (sym e) (refl, refl)
+
+module _ (books : Books) (t : List ℕ) (from : ℕ) (ags us ps ags′ us′ ps′ : List (List ℤ)) (held : List ℤ) (x : Reading)
+    (r : Reads asLines t from ags us ps ags′ us′ ps′ x) where
+  pub not-read : (n p : ℕ) → x ≡ Refused n p → Begins books t from ags us ps held ags′ us′ ps′ held (Refusal n p)
+  not-read n p e =
+      record { reading = x; reads = r; begun = subst (λ (y : Reading). BegunBy books held y held (Refusal n p)) (sym e) (refl, refl) }
+
+  pub is-read :
+      (h : Header) (held′ : List ℤ) (o : Outcome)
+      → x ≡ Accepted h
+      → OpensBooks books (h .users) (h .agents) held o held′
+      → (b : Begun)
+      → b ≡ begunOn h (o .ledger) (o .answer)
+      → Begins books t from ags us ps held ags′ us′ ps′ held′ b
+  is-read h held′ o e q b f =
+      record { reading = x; reads = r; begun = subst (λ (y : Reading). BegunBy books held y held′ b) (sym e) (o, (q, f)) }
+
+fileOr : Header → Begun → Header
+fileOr h (File k l) = k
+fileOr h (Refusal n p) = h
+
+module _ (t : List ℕ) (from : ℕ) (ags us ps ags′ us′ ps′ : List (List ℤ)) (held held′ : List ℤ) (books : Books) (b : Begun) where
+  -- a file that was begun is an accepted one
+  pub begun-counts :
+      Begins books t from ags us ps held ags′ us′ ps′ held′ b
+      → (h : Header) (l : Ledger)
+      → b ≡ File h l
+      → Counted (length ags) (length us) (length ps) from (length t) h
+  unfolding fileOr
+  begun-counts x h l e = by (x .reading) refl (x .begun)
+    where
+      on : (k : Header) (g : Ledger) (a : Answer) → x .reading ≡ Accepted k → b ≡ begunOn k g a → Counted (length ags) (length us) (length ps) from (length t) h
+      on k g Answers.Accepted r q =
+          subst (Counted (length ags) (length us) (length ps) from (length t)) (ap (fileOr h) (sym q ∙ e))
+          (counted (length ags) (length us) (length ps) t from k (sym r ∙ x .reads .answer))
+      on k g (Answers.Refused n p) r q = let z : _≡_ {A = ℕ} 0 1 = cc in absurd (omega arith)
+
+      by : (r : Reading) → x .reading ≡ r → BegunBy books held r held′ b → Counted (length ags) (length us) (length ps) from (length t) h
+      by (Accepted k) r q = on k (q .0 .ledger) (q .0 .answer) r (q .1 .1)
+      by (Refused n p) r q = let z : _≡_ {A = ℕ} 0 1 = cc in absurd (omega arith)
 
 pub same-buffers :
     {ags us ps ags′ us′ ps′ : List (List ℤ)} {held cells held′ cells′ : List ℤ}
@@ -131,6 +180,13 @@ first-rows point-rows user-rows payee-rows {agents} {users} {points} b p u y =
     record { points-in = omega (arith, x); payees-in = omega (arith, w); table = rw z (b .table) }
 
 -- the run goes on after the file, which is further on
+pub goes-to : (next : ℕ) (c : Closing) (s : Step) → s ≡ stepAfter next c → GoesTo next s
+goes-to next c s e = subst (GoesTo next) (sym e) (by (c .written))
+  where
+    by : (w : Bool) → GoesTo next (cond w (Next next (c .ledger)) Over)
+    by true = refl
+    by false = tt
+
 pub goes-on : {from most next : ℕ} (s : Step) → GoesTo next s → from < next → next ≤ most → GoesOn from most s
 goes-on (Next n l) e i j = (omega arith, omega arith)
 goes-on Over e i j = tt

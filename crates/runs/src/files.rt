@@ -1,7 +1,8 @@
 // File after file (paper 01, "The month file"): each is read, the first opens the ledger, and the month is closed and printed. A refusal
 // by reading or opening ends the run; a refused closing does not, and leaves the ledger as it was.
+ghost use mathlib.Core.Path.{_≡_};
 ghost use lib.ListN.{length};
-ghost use Rattle.runs.specs.Runs.{Begins, Buffers, Lies, GoesTo, GoesOn};
+ghost use Rattle.runs.specs.Runs.{OpensBooks, Begins, Buffers, Lies, stepAfter, GoesTo, GoesOn};
 use crate::Print;
 use crate::lines;
 use crate::month;
@@ -34,7 +35,9 @@ pub enum Begun {
 }
 
 // The ledger for a file: the first opens it, with its counts; a later one finds it open.
-fn opened(books: Books, users: usize, agents: usize, held: &mut [i64]) -> Outcome {
+fn opened(books: Books, users: usize, agents: usize, held: &mut [i64]) -> Outcome
+    ensures { λ r. ⌜ OpensBooks books users agents (now (held .entry)) r (now (held .exit)) ⌝ }
+{
     match books {
         Books::Shut => ledger::open(users as u64, agents as u64, held),
         Books::Open(ledger) => Outcome {
@@ -54,7 +57,8 @@ fn read_and_open(
     points: &mut [PointLine],
     held: &mut [i64],
 ) -> Begun
-    ensures { λ r. ⌜ Begins (length (now (agents .entry))) (length (now (users .entry))) (length (now (points .entry))) at (length (now (text .entry))) r ⌝ }
+    ensures { λ r. ⌜ Begins books (now (text .entry)) at (now (agents .entry)) (now (users .entry)) (now (points .entry)) (now (held .entry))
+        (now (agents .exit)) (now (users .exit)) (now (points .exit)) (now (held .exit)) r ⌝ }
 {
     let reading = monthfile::reading::read_lines(text, at, agents, users, points);
     match reading {
@@ -75,7 +79,7 @@ fn read_and_open(
 
 // Where the run goes on after a month.
 fn going_on(next: usize, c: Closing) -> Step
-    ensures { λ r. ⌜ GoesTo next r ⌝ }
+    ensures { λ r. ⌜ r ≡ stepAfter next c ⌝ }
 {
     let ledger = c.ledger;
     if c.written {

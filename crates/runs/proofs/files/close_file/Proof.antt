@@ -2,7 +2,7 @@
 use mathlib.Core.Path.{sym}
 use borrow.Author.Needs.{needs}
 use lib.Seq.{length-take-le}
-use Rattle.runs.proofs.Buffered.{file-buffers}
+use Rattle.runs.proofs.Buffered.{file-buffers, goes-to}
 use Rattle.runs.proofs.files.close_file.Statement.{statement}
 use Rattle.runs.proofs.files.close_file.Tie as tie
 
@@ -17,4 +17,5 @@ close-file-spec =
     (λ c. sym (length-take-le _ _ (search needs)))
     (λ c. sym (length-take-le _ _ (search needs)))
     close-requires
-    (λ c κs. search needs) (λ c. search needs) (λ c. search needs) (λ c. search needs) (λ c. search needs))
+    (λ c κs. search needs) (λ c. search needs) (λ c. search needs) (λ c. search needs)
+    (λ c. goes-to _ (c .before .before .before .before .before .close .result) _ (c .going-on .ensures)))

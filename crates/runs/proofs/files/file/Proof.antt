@@ -22,7 +22,7 @@ counts :
     (start c .args .at)
     (length (start c .args .text .now))
     (c .begun2 .given .0 .0)
-counts c = begun-counts (began c .read-and-open .ensures) (c .begun2 .given .1)
+counts c = begun-counts _ _ _ _ _ _ _ _ _ _ _ _ (began c .read-and-open .ensures) _ _ (c .begun2 .given .1)
 
 close-file-requires : tie.Need-close-file-requires
 close-file-requires c κs =
