@@ -87,7 +87,8 @@ unfoldable pub bySelf : List Case
 bySelf =
     -- nothing wrong
     (close (lines (a1 ∷ []) (u1 ∷ []) (p1 ∷ [])), accepted)
-    -- 1: no user lines; a count unlike the ledger's; 1,025 points, where 1,024 are taken; a last closed month that is not possible; an opening for none, for too many
+    -- 1: no user lines; a count unlike the ledger's; 1,025 points, not 1,024; a last closed month that is not possible; an opening for
+    -- none, for too many
     ∷ (close (lines (a1 ∷ []) [] []), refused 1 0)
     ∷ (close (lines (a1 ∷ []) (u1 ∷ u2 ∷ []) (p1 ∷ [])), refused 1 0)
     ∷ (close (lines (a1 ∷ []) (u1 ∷ []) (replicate 1025 p1)), refused 1 0)
