@@ -54,6 +54,13 @@ u2 = user (pos 2) (pos 2)
 abbrev p1 : Row
 p1 = point (pos 1) (pos 0) (pos 0)
 
+-- the consumer with a correction, and its point of one cent: a thousandth of a real for each of 10 kW
+abbrev corrected : ℤ → Row
+corrected ret = pos 1 ∷ pos 2 ∷ ret ∷ []
+
+abbrev cent : Row
+cent = pos 1 ∷ pos 1 ∷ pos 0 ∷ pos 0 ∷ pos 0 ∷ pos 10 ∷ pos 0 ∷ pos 10 ∷ pos 0 ∷ []
+
 abbrev closingOf : State → Lengths → Lines → Verdict
 closingOf s n l = refusal s (shortSlices s n) l
 
@@ -80,10 +87,12 @@ unfoldable pub bySelf : List Case
 bySelf =
     -- nothing wrong
     (close (lines (a1 ∷ []) (u1 ∷ []) (p1 ∷ [])), accepted)
-    -- 1: no user lines; a count unlike the ledger's; 1,025 points; a last closed month that is not possible; an opening for none, for too many
+    -- 1: no user lines; a count unlike the ledger's; 1,025 points, not 1,024; a last closed month that is not possible; an opening for
+    -- none, for too many
     ∷ (close (lines (a1 ∷ []) [] []), refused 1 0)
     ∷ (close (lines (a1 ∷ []) (u1 ∷ u2 ∷ []) (p1 ∷ [])), refused 1 0)
     ∷ (close (lines (a1 ∷ []) (u1 ∷ []) (replicate 1025 p1)), refused 1 0)
+    ∷ (close (lines (a1 ∷ []) (u1 ∷ []) (replicate 1024 p1)), accepted)
     ∷ (closingOf (record { users = 1; agents = 1; month = pos 202400; credits = pos 0 ∷ [] }) room (lines (a1 ∷ []) (u1 ∷ []) (p1 ∷ [])), refused 1 0)
     ∷ (openingRefusal 0 1 5, refused 1 0)
     ∷ (openingRefusal 513 1 513, refused 1 0)
@@ -116,6 +125,10 @@ bySelf =
     ∷ (close (lines (agent (pos 1) (pos 0) (pos 0) ∷ []) (u1 ∷ []) (p1 ∷ [])), refused 8 0)
     ∷ (close (lines (agent (pos 1) (pos 1000) (pos 5) ∷ []) (u1 ∷ []) []), refused 9 0)
     ∷ (close (lines (a1 ∷ []) (u1 ∷ []) []), refused 10 0)
+    -- and a sum of one cent is taken: of pb; of EUST, with pv 5; of VD
+    ∷ (close (lines (agent (pos 1) (pos 1) (pos 0) ∷ []) (u1 ∷ []) (p1 ∷ [])), accepted)
+    ∷ (close (lines (agent (pos 1) (pos 1000) (pos 5) ∷ []) (corrected (pos 5) ∷ []) (cent ∷ [])), accepted)
+    ∷ (close (lines (a1 ∷ []) (corrected (pos 1) ∷ []) []), accepted)
     ∷ []
 
 -- ---- two faults or more: the first in the paper's order

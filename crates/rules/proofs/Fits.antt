@@ -12,7 +12,8 @@ use Rattle.rules.specs.Verdict.{accepted}
 use Rattle.rules.specs.Calendar.{monthOfYear, impossibleMonth}
 use Rattle.rules.specs.Lines.{Agent, User, kindOf, badAmounts, badBand, badAgent, badUser, badPoint, unfitPoint}
 use Rattle.rules.specs.Refusals.{pointTest}
-use Rattle.rules.specs.Ranges.{Amount, Correction, Tariff, Discount, Power, AmountsFit}
+use Rattle.rules.specs.Ranges.{Amount, Tariff, Discount, Power, AmountsFit}
+use Rattle.rules.specs.Limits.{AgentFits, UserFits, PointFits}
 use Rattle.rules.proofs.Tests.{when-accepted, when-then}
 
 -- a month that there is
@@ -46,16 +47,7 @@ band-within e =
     let e₁ = or-false _ _ (e₂ .0) in
     (outside-false _ _ _ (e₁ .0), outside-false _ _ _ (e₁ .1), outside-false _ _ _ (e₂ .1), outside-false _ _ _ (e₃ .1))
 
--- the agent line at the position k, from 1
-pub record AgentFits (k : ℕ) (a : Agent) : Type 0 where
-  pub number : a .number ≡ pos k
-  pub pb : Amount (a .pb)
-  pub pv : Amount (a .pv)
-  pub afs : Amount (a .afs)
-  pub rfs : Amount (a .rfs)
-  pub pa : Correction (a .pa)
-  pub ret : Correction (a .ret)
-
+-- an agent line, a user line, a point's own values
 pub agent-fits : (k : ℕ) (a : Agent) → badAgent k a ≡ false → AgentFits k a
 unfolding badAgent
 agent-fits k a e =
@@ -77,29 +69,12 @@ agent-fits k a e =
 pub amounts-fit : {k : ℕ} {a : Agent} → AgentFits k a → AmountsFit a
 amounts-fit f = record { pb = f .pb; pv = f .pv; afs = f .afs; rfs = f .rfs; pa = f .pa; ret = f .ret }
 
--- the user line at the position k, from 1
-pub record UserFits (k : ℕ) (u : User) : Type 0 where
-  pub number : u .number ≡ pos k
-  pub kind : Within (pos 1) (pos 3) (u .kind)
-  pub ret : Correction (u .ret)
-
 pub user-fits : (k : ℕ) (u : User) → badUser k u ≡ false → UserFits k u
 unfolding badUser
 user-fits k u e =
     let e₂ = or-false _ _ e in
     let e₁ = or-false _ _ (e₂ .0) in
     record { number = eqZ-true _ _ (not-false _ (e₁ .0)); kind = outside-false _ _ _ (e₁ .1); ret = outside-false _ _ _ (e₂ .1) }
-
--- a point's own values
-pub record PointFits (p : Point) : Type 0 where
-  pub tp : Tariff (p .tp)
-  pub tf : Tariff (p .tf)
-  pub dp : Discount (p .dp)
-  pub df : Discount (p .df)
-  pub mp : Power (p .mp)
-  pub mf : Power (p .mf)
-  pub vp : Power (p .vp)
-  pub vf : Power (p .vf)
 
 pub point-fits : (p : Point) → badPoint p ≡ false → PointFits p
 unfolding badPoint

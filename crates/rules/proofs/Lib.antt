@@ -1,13 +1,15 @@
--- What follows from the definitions of specs/, up to demand 3.
+-- What follows from the definitions of specs/, up to demands 1 and 3.
 --
 -- An accepted month: `Tests` takes a list of tests apart; `Fits` is a line with every value in its range; `Passed` is all that an
 -- accepted month has passed; `Sizes`, `Entries` and `ByLine` are the lengths and the entries of its lists of amounts.
 -- A loop over its lines: `Turns` is one test of each line, turn by turn; `Answers` reads an answer off its verdict.
 -- Its table: `Near` is the one cent; `Slice` reads a table in the slice that it stands in.
+-- Demand 1: `Limits` is a limit and a test that agree, `LimitsTests` each limit and its test, `LimitsMonth` the limits in their order and
+-- the refusals of a call, and `Demand1` states the theorem.
 -- Demand 3: `Steps` holds one closing to one step of the tally, `Follow` a list of them, and `Demand` states the theorem.
 -- It is not empty: `Promise` proves a call's promise by cases, `Some` that promised lists of calls exist, and `Worked` is one.
--- Guards, which a wrong definition would break: `Totals`, `Blind` (what an amount does not look at), `Cycle`, `Examples` of refusals;
--- `Sides` has the sums that they need.
+-- Guards, which a wrong definition would break: `Totals`, `Blind` (what an amount does not look at), `Cycle`, `Examples` of refusals and
+-- `Places` where they fall; `Sides` has the sums that they need.
 -- What code relies on: `Bounds` of every amount. `Ranged` is what tests 1 to 7 give; on it stand, by the tests that each needs besides,
 -- `BoundsSums` (none; from `BoundsPoint`, `BoundsAgent` and `PerUser`), `BoundsCharges` (9), `BoundsCredits` (8, 9), the cells (10).
 -- `MonthTotals` has the totals of every accepted month.
@@ -32,6 +34,7 @@ pub mod Totals
 pub mod Blind
 pub mod Cycle
 pub mod Examples
+pub mod Places
 pub mod Ranged
 pub mod BoundsPoint
 pub mod BoundsAgent
@@ -41,3 +44,7 @@ pub mod BoundsCharges
 pub mod BoundsCredits
 pub mod Bounds
 pub mod MonthTotals
+pub mod Limits
+pub mod LimitsTests
+pub mod LimitsMonth
+pub mod Demand1

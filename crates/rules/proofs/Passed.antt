@@ -25,7 +25,8 @@ use Rattle.rules.specs.Refusals.{pointTest, countTests, stateTests, line
 use Rattle.rules.specs.Tested.{Tested}
 use Rattle.rules.proofs.Tests.{then-accepted, when-accepted, when-then, and-false, each-from-1}
 use Rattle.rules.specs.Ranges.{Amount}
-use Rattle.rules.proofs.Fits.{Possible, possible, AgentFits, agent-fits, UserFits, user-fits, PointPassed, point-passed}
+use Rattle.rules.specs.Limits.{AgentFits, UserFits}
+use Rattle.rules.proofs.Fits.{Possible, possible, agent-fits, user-fits, PointPassed, point-passed}
 
 -- every test was passed but 2, of the slices that a call is lent
 pub record Passed (s : State) (l : Lines) : Type 0 where
@@ -65,11 +66,11 @@ T-true : (t : Bool) → T t → t ≡ true
 T-true true h = refl
 T-true false h = absurd h
 
-ltZ-is : {a b : ℤ} → a <ℤ b → ltZ a b ≡ true
+pub ltZ-is : {a b : ℤ} → a <ℤ b → ltZ a b ≡ true
 ltZ-is h = T-true _ (h .lt)
 
 -- ---- what the parts of `refusal` tell
-between : (n most : ℕ) → (eqb n 0 || ltb most n) ≡ false → (0 < n) × (n ≤ most)
+pub between : (n most : ℕ) → (eqb n 0 || ltb most n) ≡ false → (0 < n) × (n ≤ most)
 between n most e =
     let f = or-false (eqb n 0) (ltb most n) e in
     let z : n ≡ 0 → ⊥ = eqb-false n 0 (f .0) in

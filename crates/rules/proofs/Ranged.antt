@@ -12,7 +12,8 @@ use Rattle.rules.specs.Lines.{Lines, agentOf, userOf, pointOf}
 use Rattle.rules.specs.State.{State}
 use Rattle.rules.specs.Tested.{Tested}
 use Rattle.rules.specs.Ranges.{Amount}
-use Rattle.rules.proofs.Fits.{Possible, AgentFits, UserFits, PointFits}
+use Rattle.rules.specs.Limits.{AgentFits, UserFits, PointFits}
+use Rattle.rules.proofs.Fits.{Possible}
 use Rattle.rules.proofs.Passed.{Passed, counts, state-passed, lines-passed}
 
 pub record Ranged (s : State) (l : Lines) : Type 0 where

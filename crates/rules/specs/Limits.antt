@@ -9,7 +9,6 @@ use lib.ListN.{length}
 use lib.Signed.{_<ℤ_}
 use Rattle.ints.specs.Range.{Within}
 use Rattle.ints.specs.Sums.{sumℤ}
-use Rattle.rules.specs.declared.MonthLine.{MonthLine}
 use Rattle.rules.specs.declared.Point.{Point}
 use Rattle.rules.specs.Most.{mostHeld}
 use Rattle.rules.specs.Lines.{Agent, User, Lines, kindOf, distributor, generator}
