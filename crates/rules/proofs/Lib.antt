@@ -4,7 +4,8 @@
 -- accepted month has passed; `Sizes`, `Entries` and `ByLine` are the lengths and the entries of its lists of amounts.
 -- A loop over its lines: `Turns` is one test of each line, turn by turn; `Answers` reads an answer off its verdict.
 -- Its table: `Near` is the one cent; `Slice` reads a table in the slice that it stands in.
--- Demand 3: `Steps` holds one closing to one step of the tally, `Follow` a list of them, and `Demand` states the theorem.
+-- Demand 3: `Lending` has the held credits in the slice that lends them; `Steps` holds one closing to one step of the tally, `Follow` a
+-- list of them, and `Demand` states the theorem; `OneSlice` is its case of one slice throughout.
 -- It is not empty: `Promise` proves a call's promise by cases, `Some` that promised lists of calls exist, and `Worked` is one.
 -- Guards, which a wrong definition would break: `Totals`, `Blind` (what an amount does not look at), `Cycle`, `Examples` of refusals;
 -- `Sides` has the sums that they need.
@@ -20,9 +21,11 @@ pub mod Turns
 pub mod Answers
 pub mod Near
 pub mod Slice
+pub mod Lending
 pub mod Steps
 pub mod Follow
 pub mod Demand
+pub mod OneSlice
 pub mod Promise
 pub mod Some
 pub mod Worked

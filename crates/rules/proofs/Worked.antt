@@ -1,4 +1,5 @@
--- Demand 3 at work, with nothing assumed: the month of paper 01's example file closed on a new ledger, then handed in again and refused.
+-- Demand 3 at work, with nothing assumed: the month of paper 01's example file, first with the held credits lent in a slice too short and
+-- refused, then closed in a longer one, then handed in again in a third and refused.
 use Prim.Native.Nat.{ℕ, zero, suc, _<_}
 use mathlib.Core.Path.{_≡_, refl, subst, subst₂}
 use mathlib.Core.List.{List, [], _∷_, _++_, map}
@@ -22,7 +23,7 @@ use Rattle.rules.specs.Table.{Cell, rounded-down, cellAt, Table}
 use Rattle.rules.specs.Refusals.{badCounts, shortSlices, badMonth, countTests, stateTests, linesBeforePoints}
 use Rattle.rules.specs.Refusals.{lineTests, sumTests, refusal, openingRefusal}
 use Rattle.rules.specs.Calls.{Opens, stateOf, closingRefusal, Closes}
-use Rattle.rules.specs.Demand.{Call, Chain, AllPromised, Demand3}
+use Rattle.rules.specs.Demand.{Call, leftIn, Chain, AllPromised, Demand3}
 use Rattle.rules.proofs.Promise.{opens-accepted, closes-accepted, closes-refused}
 use Rattle.rules.proofs.Demand.{demand-3}
 
@@ -42,12 +43,22 @@ july =
           ∷ [];
     }
 
--- a slice of held credits of three entries, for two users; what it held before the opening, and from then on
+-- a slice of three entries, for two users: what it held before the opening, and after it
 abbrev before : List ℤ
 before = pos 5 ∷ pos 6 ∷ pos 77 ∷ []
 
+abbrev after-opening : List ℤ
+after-opening = pos 0 ∷ pos 0 ∷ pos 77 ∷ []
+
+-- the credits, and the slices that lend them: one entry for two users; three, the third another than at the opening; the credits alone
+abbrev credits : List ℤ
+credits = pos 0 ∷ pos 0 ∷ []
+
+abbrev too-short : List ℤ
+too-short = pos 0 ∷ []
+
 abbrev held : List ℤ
-held = pos 0 ∷ pos 0 ∷ pos 77 ∷ []
+held = pos 0 ∷ pos 0 ∷ pos 88 ∷ []
 
 abbrev new : Ledger
 new = record { users = 2; agents = 2; month = pos 0 }
@@ -67,13 +78,17 @@ cells′ = table ++ pos 9 ∷ []
 abbrev work : List ℕ
 work = replicate 32 0
 
+not-yet : closingRefusal new too-short cells work july ≡ refused 2 1
+unfolding refusal countTests badCounts shortSlices
+not-yet = refl
+
 first : closingRefusal new held cells work july ≡ accepted
 unfolding refusal badCounts shortSlices badMonth countTests stateTests linesBeforePoints lineTests sumTests eachLine badAgent badUser badPoint unfitPoint
     outside impossibleMonth monthOfYear floor eachFrom sideBySide sumℤ halfUp orZero useCharge allowance excess overrun ofUser EUSTs overrunSums VMEs pvTotal
     CPVs ns VDs part partsFrom runningShare kindOf
 first = refl
 
-again : closingRefusal closed held cells′ work july ≡ refused 3 0
+again : closingRefusal closed credits cells′ work july ≡ refused 3 0
 unfolding refusal countTests stateTests badCounts shortSlices badMonth impossibleMonth monthOfYear floor outside
 again = refl
 
@@ -128,14 +143,25 @@ column (suc (suc j)) q = absurd (omega arith)
 table-is : Table (VCs (stateOf new held) july) (VDs (stateOf new held) july) table
 table-is = subst₂ (λ (x y : List ℤ). Table x y table) credits-are debits-are (record { size = refl; cell = cell; row = row; column = column })
 
--- the opening and the two closings
-opening : Opens 2 2 before (record { answer = Accepted; ledger = new }) held
+-- the opening and the three closings
+opening : Opens 2 2 before (record { answer = Accepted; ledger = new }) after-opening
 unfolding openingRefusal
 opening = opens-accepted 2 2 before refl
 
 abbrev calls : List Call
 calls =
     record {
+      ledger = new;
+      held = too-short;
+      lines = july;
+      cells = cells;
+      work = work;
+      outcome = record { answer = Refused 2 1; ledger = new };
+      heldLeft = too-short;
+      cellsLeft = cells;
+      workLeft = work;
+    }
+    ∷ record {
       ledger = new;
       held = held;
       lines = july;
@@ -148,12 +174,12 @@ calls =
     }
     ∷ record {
       ledger = closed;
-      held = held;
+      held = credits;
       lines = july;
       cells = cells′;
       work = work;
       outcome = record { answer = Refused 3 0; ledger = closed };
-      heldLeft = held;
+      heldLeft = credits;
       cellsLeft = cells′;
       workLeft = work;
     }
@@ -162,14 +188,21 @@ calls =
 promised : AllPromised calls
 unfolding AllPromised
 promised = (
-  subst (λ (x : List ℤ). Closes new held july cells work (record { answer = Accepted; ledger = closed }) (x ++ pos 77 ∷ []) cells′ work) left
-      (closes-accepted new held july cells work table work first table-is refl refl),
-  (closes-refused closed held july cells′ work 3 0 again, tt),
+  closes-refused new too-short july cells work 2 1 not-yet,
+  (
+    subst (λ (x : List ℤ). Closes new held july cells work (record { answer = Accepted; ledger = closed }) (x ++ pos 88 ∷ []) cells′ work) left
+        (closes-accepted new held july cells work table work first table-is refl refl),
+    (closes-refused closed credits july cells′ work 3 0 again, tt),
+  ),
 )
 
-chain : Chain new held calls
-unfolding Chain
-chain = (refl, refl, (refl, refl, tt))
+-- the slice too short leaves the credits as they were
+kept : leftIn credits too-short ≡ credits
+kept = refl
 
-pub worked : Demand3 2 2 before new held calls
-worked = demand-3 2 2 before _ held opening refl calls chain promised
+chain : Chain new credits calls
+unfolding Chain
+chain = (refl, refl, (refl, refl, (refl, refl, tt)))
+
+pub worked : Demand3 2 2 before new after-opening calls
+worked = demand-3 2 2 before _ after-opening opening refl calls chain promised
