@@ -2,10 +2,13 @@
 pub mod Finishing
 -- Opening: `Opening` has its ways out.
 -- Demand 3: `Demand` states the theorem over the checked contracts of `open` and `close`; `Learnt` is what the contract of `close` tells
--- a caller; `Pins` writes both contracts out; `Some` shows that the theorem is not empty; `Machine` takes it to the machine's runs.
+-- a caller; `Pins` writes both contracts out; `Some` shows that the theorem is not empty; `Machine` takes it to the machine's runs, and
+-- `Ready` shows that there are memories from which they can be made, by `Placing`.
 pub mod Opening
 pub mod Learnt
 pub mod Demand
 pub mod Pins
 pub mod Some
 pub mod Machine
+pub mod Placing
+pub mod Ready
