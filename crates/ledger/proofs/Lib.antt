@@ -2,8 +2,9 @@
 pub mod Finishing
 -- Opening: `Opening` has its ways out.
 -- Demand 3: `Demand` states the theorem over the checked contracts of `open` and `close`; `Learnt` is what the contract of `close` tells
--- a caller; `Pins` writes both contracts out; `Some` shows that the theorem is not empty; `Machine` takes it to the machine's runs, and
--- `Ready` shows that there are memories from which they can be made, by `Placing`.
+-- a caller; `Pins` writes both contracts out; `Some` shows that the theorem is not empty; `Machine` takes it to the machine's runs.
+-- There are such runs: `Ready` has memories from which the two can be called, with whatever fits its type (`Fitting`), made by `Placing`;
+-- `SomeRuns` has an opening that is run and accepted, and a caller after it.
 pub mod Opening
 pub mod Learnt
 pub mod Demand
@@ -11,4 +12,6 @@ pub mod Pins
 pub mod Some
 pub mod Machine
 pub mod Placing
+pub mod Fitting
 pub mod Ready
+pub mod SomeRuns

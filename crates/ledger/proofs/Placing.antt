@@ -4,7 +4,7 @@
 use Prim.Native.Nat.{ℕ, _+_}
 use mathlib.Core.Path.{_≡_, refl}
 use mathlib.Core.Logic.{∥∥₁-prop, ∥∥₁-elim, ∥∥₁-map}
-use mathlib.Core.List.{List, [], _∷_, map}
+use mathlib.Core.List.{List, [], _∷_}
 use mathlib.Core.Option.{some}
 use lib.Dec.{T}
 use lib.ListN.{length}
@@ -37,23 +37,11 @@ use denote.Ref.{RefT, now}
 use denote.Slice.{Room, MutSlice, ShrSlice, slice-vals}
 use denote.Lend.{Held, lends-slice, lends-shr-slice}
 
--- something of every element
-abbrev pub Every : {A : Type 0} → (A → Type 0) → List A → Type 0
-Every P [] = Unit {0}
-Every P (x ∷ xs) = P x × Every P xs
-
 -- the elements of a slice have machine values, and there is room for so many
 pub record Lies (R : RattleType) (ys : List (R .Denot)) : Type 0 where
   pub values : List Val
   pub are : shadow (each (R .Denot) (R .own) ys values)
   pub room : Room R (length ys)
-
-pub lies : (R : RattleType) (val : R .Denot → Val) (ys : List (R .Denot)) → Every (λ y. Is R y (val y ∷ [])) ys → Room R (length ys) → Lies R ys
-lies R val ys h r = record { values = map val ys; are = all ys h; room = r }
-  where
-    all : (xs : List (R .Denot)) → Every (λ y. Is R y (val y ∷ [])) xs → shadow (each (R .Denot) (R .own) xs (map val xs))
-    all [] t = tt
-    all (x ∷ xs) t = (t .0, all xs (t .1))
 
 module _ {M : Type 1} (𝓤 : URA M) (H : Heap 𝓤) (𝓜 : Model 𝓤 H) (𝓖 : GhostRules 𝓤 H) where
   abbrev Pr : Type 2
