@@ -1,6 +1,7 @@
 -- DEMAND 3 of the machine's own runs. A caller, from a memory that owns what the types of `close` ask, runs the routine of `close`, and
--- goes on from what the run returned and left, in any way, to its next call. Whatever the caller, each of its runs ends, and the list of
--- them meets `Demand3`. Assumes nothing: it is shown at every model.
+-- goes on from what the run returned and left, in any way, to its next call, lending the held credits in a slice of any length. Whatever
+-- the caller, each of its runs ends, and the list of them meets `Demand3`. proofs/Ready shows that there are such memories. Assumes
+-- nothing: it is shown at every model.
 use Prim.Native.Nat.{ℕ, zero, suc}
 use mathlib.Core.Path.{_≡_}
 use mathlib.Core.Logic.{∥∥₁-prop, ∥∥₁-elim, ∥∥₁-map}
@@ -28,7 +29,7 @@ use denote.Ref.{now}
 use lib.IntN.{ℤ}
 use Rattle.rules.specs.declared.Ledger.{Ledger}
 use Rattle.rules.specs.declared.Answer.the-variants.{Accepted}
-use Rattle.rules.specs.Demand.{Demand3, Chain as RulesChain}
+use Rattle.rules.specs.Demand.{Lent, leftIn, Demand3, Chain as RulesChain}
 use Rattle.ledger.proofs.open as open'
 use Rattle.ledger.proofs.open.Reads as open-reads
 use Rattle.ledger.proofs.open.Symbol as open-code
@@ -37,7 +38,7 @@ use Rattle.ledger.proofs.close as close
 use Rattle.ledger.proofs.close.Symbol as close-code
 use Rattle.ledger.proofs.close.Met as close-met
 use Rattle.ledger.proofs.Learnt.{Learnt}
-use Rattle.ledger.proofs.Demand.{Called, Opened, heldAt, heldLeft, plain, Chain, Demand-3}
+use Rattle.ledger.proofs.Demand.{Called, Opened, heldAt, heldLeft, creditsLeft, plain, Chain, Demand-3}
 
 module _ {M : Type 1} (𝓤 : URA M) (H : Heap 𝓤) (𝓜 : Model 𝓤 H) (𝓖 : GhostRules 𝓤 H) (𝓡 : Running 𝓤 H 𝓜) where
   front : (B E F : SProp 𝓤) → ent 𝓤 (sep 𝓤 (sep 𝓤 B E) F) (sep 𝓤 E (sep 𝓤 B F))
@@ -133,39 +134,40 @@ module _ {M : Type 1} (𝓤 : URA M) (H : Heap 𝓤) (𝓜 : Model 𝓤 H) (𝓖
   abbrev pub called : (x : Bound 𝓤 H (𝓖 .A) close.signature) (σ : Memory) (F : SProp 𝓤) → Close-ran x σ F → Called
   called x σ F y = record { κs = x .0; args = x .3; result = y .result; last = y .last; learnt = y .holds }
 
-  -- a caller that is to make n calls and has the ledger g and the held credits: the arguments and the memory of its next call, and,
-  -- from whatever that run returns and leaves, the rest
+  -- a caller that is to make n calls and has the ledger g and the held credits: the arguments and the memory of its next call, which is
+  -- lent the credits, and, from whatever that run returns and leaves, the rest
   abbrev pub Caller : ℕ → Ledger → List ℤ → Type 2
-  Caller zero g held = Unit {2}
-  Caller (suc n) g held =
+  Caller zero g credits = Unit {2}
+  Caller (suc n) g credits =
       (x : Bound 𝓤 H (𝓖 .A) close.signature)
       × (x .3 .0 ≡ g)
-      × (now (x .3 .1 .0) ≡ held)
+      × Lent credits (now (x .3 .1 .0))
       × (σ : Memory)
       × (F : SProp 𝓤)
       × Close-ready x σ F
-      × ((y : Close-ran x σ F) → Caller n (y .result .ledger) (y .last .1 .0))
+      × ((y : Close-ran x σ F) → Caller n (y .result .ledger) (leftIn credits (y .last .1 .0)))
 
   -- the runs that a caller makes, one after the other
-  abbrev pub Play : (n : ℕ) (g : Ledger) (held : List ℤ) → Caller n g held → Type 1
-  Play zero g held c = Unit {1}
-  Play (suc n) g held c = (y : Close-ran (c .0) (c .3) (c .4)) × Play n (y .result .ledger) (y .last .1 .0) (c .6 y)
+  abbrev pub Play : (n : ℕ) (g : Ledger) (credits : List ℤ) → Caller n g credits → Type 1
+  Play zero g credits c = Unit {1}
+  Play (suc n) g credits c = (y : Close-ran (c .0) (c .3) (c .4)) × Play n (y .result .ledger) (leftIn credits (y .last .1 .0)) (c .6 y)
 
-  abbrev pub calls : (n : ℕ) (g : Ledger) (held : List ℤ) (c : Caller n g held) → Play n g held c → List Called
-  calls zero g held c p = []
-  calls (suc n) g held c p = called (c .0) (c .3) (c .4) (p .0) ∷ calls n (p .0 .result .ledger) (p .0 .last .1 .0) (c .6 (p .0)) (p .1)
+  abbrev pub calls : (n : ℕ) (g : Ledger) (credits : List ℤ) (c : Caller n g credits) → Play n g credits c → List Called
+  calls zero g credits c p = []
+  calls (suc n) g credits c p =
+      called (c .0) (c .3) (c .4) (p .0) ∷ calls n (p .0 .result .ledger) (leftIn credits (p .0 .last .1 .0)) (c .6 (p .0)) (p .1)
 
-  chained : (n : ℕ) (g : Ledger) (held : List ℤ) (c : Caller n g held) (p : Play n g held c) → Chain g held (calls n g held c p)
+  chained : (n : ℕ) (g : Ledger) (credits : List ℤ) (c : Caller n g credits) (p : Play n g credits c) → Chain g credits (calls n g credits c p)
   unfolding RulesChain
-  chained zero g held c p = tt
-  chained (suc n) g held c p = (c .1, c .2, chained n (p .0 .result .ledger) (p .0 .last .1 .0) (c .6 (p .0)) (p .1))
+  chained zero g credits c p = tt
+  chained (suc n) g credits c p = (c .1, c .2, chained n (p .0 .result .ledger) (leftIn credits (p .0 .last .1 .0)) (c .6 (p .0)) (p .1))
 
   -- whatever the caller, each of its runs ends
-  pub plays : (n : ℕ) (g : Ledger) (held : List ℤ) (c : Caller n g held) → ∥ Play n g held c ∥₁
-  plays zero g held c = ∣ tt ∣₁
-  plays (suc n) g held c =
+  pub plays : (n : ℕ) (g : Ledger) (credits : List ℤ) (c : Caller n g credits) → ∥ Play n g credits c ∥₁
+  plays zero g credits c = ∣ tt ∣₁
+  plays (suc n) g credits c =
       ∥∥₁-elim (close-runs (c .0) (c .3) (c .4) (c .5)) ∥∥₁-prop
-      (λ y. ∥∥₁-map (plays n (y .result .ledger) (y .last .1 .0) (c .6 y)) (λ p. (y, p)))
+      (λ y. ∥∥₁-map (plays n (y .result .ledger) (leftIn credits (y .last .1 .0)) (c .6 y)) (λ p. (y, p)))
 
   -- an opening that was run and accepted
   abbrev pub opened : (x : Bound 𝓤 H (𝓖 .A) open'.signature) (σ : Memory) (F : SProp 𝓤) (y : Open-ran x σ F) → y .result .answer ≡ Accepted → Opened
@@ -175,10 +177,10 @@ module _ {M : Type 1} (𝓤 : URA M) (H : Heap 𝓤) (𝓜 : Model 𝓤 H) (𝓖
   pub demand-3-of-runs :
       (x : Bound 𝓤 H (𝓖 .A) open'.signature) (σ : Memory) (F : SProp 𝓤) (y : Open-ran x σ F) (e : y .result .answer ≡ Accepted)
       → let o = opened x σ F y e in
-      (n : ℕ) (c : Caller n (o .result .ledger) (heldLeft o))
-      → ∥ ((p : Play n (o .result .ledger) (heldLeft o) c)
-      × Demand3 (o .args .0) (o .args .1 .0) (heldAt o) (o .result .ledger) (heldLeft o) (map plain (calls n (o .result .ledger) (heldLeft o) c p))) ∥₁
+      (n : ℕ) (c : Caller n (o .result .ledger) (creditsLeft o))
+      → ∥ ((p : Play n (o .result .ledger) (creditsLeft o) c)
+      × Demand3 (o .args .0) (o .args .1 .0) (heldAt o) (o .result .ledger) (heldLeft o) (map plain (calls n (o .result .ledger) (creditsLeft o) c p))) ∥₁
   demand-3-of-runs x σ F y e n c =
       let o = opened x σ F y e in
-      ∥∥₁-map (plays n (o .result .ledger) (heldLeft o) c)
-      (λ p. (p, Demand-3 o (calls n (o .result .ledger) (heldLeft o) c p) (chained n (o .result .ledger) (heldLeft o) c p)))
+      ∥∥₁-map (plays n (o .result .ledger) (creditsLeft o) c)
+      (λ p. (p, Demand-3 o (calls n (o .result .ledger) (creditsLeft o) c p) (chained n (o .result .ledger) (creditsLeft o) c p)))

@@ -3,7 +3,7 @@ use Prim.Native.Nat.{ℕ, suc, _<_}
 use mathlib.Core.Path.{_≡_, refl, sym, ap, ap₂, _∙_, subst}
 use mathlib.Core.List.{List, [], _∷_, map}
 use lib.IntN.{ℤ, pos, _+ℤ_}
-use lib.ListN.{getD}
+use lib.ListN.{drop, getD}
 use Rattle.ints.specs.Bridge.{za, add#}
 use Rattle.ints.specs.Sums.{Σ<}
 use Rattle.rules.specs.declared.Ledger.{Ledger}
@@ -12,13 +12,15 @@ use Rattle.rules.specs.Table.{cellAt}
 use Rattle.rules.specs.State.{State}
 use Rattle.rules.specs.Calls.{verdictOf}
 use Rattle.rules.specs.Tally.{judged, next, after, verdicts, counted, added, chargesLessCompensation, payeeCredit}
-use Rattle.rules.specs.Demand.{Call, Chain, AllPromised, fed, lastLedger, lastHeld, billed, billedToUser, billedByPayee, AllNear}
+use Rattle.rules.specs.Demand.{Call, Chain, AllPromised, leftIn, fed, lastLedger, lastCredits, AllBeyond, billed, billedToUser, billedByPayee, AllNear}
+use Rattle.rules.proofs.Lending.{kept}
 use Rattle.rules.proofs.Steps.{Agree, Step, step}
 
 -- what is carried through the list: demand 3 from the state s on, with the credits of s before and those after the list
-pub record Follows (users agents : ℕ) (s : State) (g : Ledger) (held rest : List ℤ) (cs : List Call) : Type 0 where
+pub record Follows (users agents : ℕ) (s : State) (g : Ledger) (credits : List ℤ) (cs : List Call) : Type 0 where
   pub answers : map (λ (c : Call). verdictOf (c .outcome .answer)) cs ≡ verdicts s (map fed cs)
-  pub last : Agree users agents (after s (map fed cs)) (lastLedger g cs) (lastHeld held cs) rest
+  pub last : Agree users agents (after s (map fed cs)) (lastLedger g cs) (lastCredits credits cs)
+  pub beyond : AllBeyond users cs
   pub user :
       (j : ℕ)
       → j < users
@@ -46,32 +48,25 @@ joined x y b a before between behind e f =
       add# (y +ℤ a) behind,
     )
 
--- the first call was handed the ledger and the slice that the tally agrees on
-handed :
-    (users agents : ℕ) (s : State) (g g′ : Ledger) (held held′ rest : List ℤ)
-    → g′ ≡ g
-    → held′ ≡ held
-    → Agree users agents s g held rest
-    → Agree users agents s g′ held′ rest
-handed users agents s g g′ held held′ rest e f a =
-    subst (λ (x : Ledger). Agree users agents s x held′ rest) (sym e) (subst (λ (x : List ℤ). Agree users agents s g x rest) (sym f) a)
-
 pub follows :
-    (users agents : ℕ) (s : State) (g : Ledger) (held rest : List ℤ) (cs : List Call)
-    → Agree users agents s g held rest
-    → Chain g held cs
+    (users agents : ℕ) (s : State) (g : Ledger) (credits : List ℤ) (cs : List Call)
+    → Agree users agents s g credits
+    → Chain g credits cs
     → AllPromised cs
-    → Follows users agents s g held rest cs
-unfolding Chain AllPromised lastLedger lastHeld billed AllNear after verdicts added
-follows users agents s g held rest [] a h p = record { answers = refl; last = a; user = λ j l. refl; payee = λ i l. refl; near = tt }
-follows users agents s g held rest (c ∷ cs) a h p =
-    let t : Step (judged s (fed c)) users agents s c rest =
-    step users agents s c rest (handed users agents s g (c .ledger) held (c .held) rest (h .0) (h .1) a) (p .0) in
-    let r : Follows users agents (next s (fed c)) (c .outcome .ledger) (c .heldLeft) rest cs =
-    follows users agents (next s (fed c)) (c .outcome .ledger) (c .heldLeft) rest cs (t .agree) (h .2) (p .1) in
+    → Follows users agents s g credits cs
+unfolding Chain AllPromised lastLedger lastCredits AllBeyond billed AllNear after verdicts added
+follows users agents s g credits [] a h p = record { answers = refl; last = a; beyond = tt; user = λ j l. refl; payee = λ i l. refl; near = tt }
+follows users agents s g credits (c ∷ cs) a h p =
+    let b : Agree users agents s (c .ledger) credits = subst (λ (x : Ledger). Agree users agents s x credits) (sym (h .0)) a in
+    let t : Step (judged s (fed c)) users agents s c credits = step users agents s c credits b (h .1) (p .0) in
+    let r : Follows users agents (next s (fed c)) (c .outcome .ledger) (leftIn credits (c .heldLeft)) cs =
+    follows users agents (next s (fed c)) (c .outcome .ledger) (leftIn credits (c .heldLeft)) cs (t .agree) (h .2) (p .1) in
+    let k = kept c (p .0) in
+    let n : c .ledger .users ≡ users = ap (λ (x : State). x .users) (b .state) ∙ b .tally-users in
     record {
       answers = ap₂ (λ (v : Verdict) (vs : List Verdict). v ∷ vs) (t .answer) (r .answers);
       last = r .last;
+      beyond = (subst (λ (m : ℕ). drop m (c .heldLeft) ≡ drop m (c .held)) n (k .0), k .1, r .beyond);
       user = λ j l.
           ap
           (λ (v : Verdict).

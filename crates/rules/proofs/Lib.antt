@@ -6,7 +6,8 @@
 -- Its table: `Near` is the one cent; `Slice` reads a table in the slice that it stands in.
 -- Demand 1: `Limits` is a limit and a test that agree, `LimitsTests` each limit and its test, `LimitsMonth` the limits in their order and
 -- the refusals of a call, and `Demand1` states the theorem.
--- Demand 3: `Steps` holds one closing to one step of the tally, `Follow` a list of them, and `Demand` states the theorem.
+-- Demand 3: `Lending` has the held credits in the slice that lends them; `Steps` holds one closing to one step of the tally, `Follow` a
+-- list of them, and `Demand` states the theorem; `OneSlice` is its case of one slice throughout.
 -- It is not empty: `Promise` proves a call's promise by cases, `Some` that promised lists of calls exist, and `Worked` is one.
 -- Guards, which a wrong definition would break: `Totals`, `Blind` (what an amount does not look at), `Cycle`, `Examples` of refusals and
 -- `Places` where they fall; `Sides` has the sums that they need.
@@ -22,9 +23,11 @@ pub mod Turns
 pub mod Answers
 pub mod Near
 pub mod Slice
+pub mod Lending
 pub mod Steps
 pub mod Follow
 pub mod Demand
+pub mod OneSlice
 pub mod Promise
 pub mod Some
 pub mod Worked

@@ -1,12 +1,13 @@
--- Demand 3 is not empty: whatever lines, cells and work slices a caller picks, there are calls with these that keep their promises and
--- follow each other. Assumes that an accepted month has a table (`Tables`), which paper 01 states and the cells' search proves.
-use Prim.Native.Nat.{ℕ, suc, _*_}
-use mathlib.Core.Path.{_≡_, refl, sym, ap, ap₂, _∙_}
-use mathlib.Core.List.{List, [], _∷_, _++_, map}
+-- Demand 3 is not empty: whatever lines, cells and work slices a caller picks, and however it lends the held credits, there are calls with
+-- these that keep their promises and follow each other. Assumes that an accepted month has a table (`Tables`), which paper 01 states and
+-- the cells' search proves.
+use Prim.Native.Nat.{ℕ, zero, suc, _*_}
+use mathlib.Core.Path.{_≡_, refl, sym, ap, ap₂, _∙_, subst}
+use mathlib.Core.List.{List, [], _∷_, _++_}
 use native.Mathlib.Omega.{arith}
 use lib.IntN.{ℤ, pos}
-use lib.ListN.{length, take, drop, replicate}
-use lib.Seq.{length-take-le}
+use lib.ListN.{length, take, drop, replicate, length-append, length-take}
+use lib.Seq.{length-take-le, take-all, take-append-seam}
 use Rattle.rules.specs.declared.Ledger.{Ledger}
 use Rattle.rules.specs.declared.Answer.the-variants.{Accepted}
 use Rattle.rules.specs.declared.Outcome.{Outcome}
@@ -18,7 +19,7 @@ use Rattle.rules.specs.Table.{Table}
 use Rattle.rules.specs.State.{State}
 use Rattle.rules.specs.Refusals.{cellsNeeded, shortSlices, refusal, openingRefusal}
 use Rattle.rules.specs.Calls.{Opens, stateOf, lengthsOf, closingRefusal, Closes}
-use Rattle.rules.specs.Demand.{Call, Promised, Chain, AllPromised}
+use Rattle.rules.specs.Demand.{Call, Promised, Lent, leftIn, Chain, AllPromised}
 use Rattle.rules.proofs.Passed.{Passed, slices, slices-accepted, passed}
 use Rattle.rules.proofs.Sizes.{length-VDs, length-VCs}
 use Rattle.rules.proofs.Promise.{opens-accepted, closes-refused, closes-accepted}
@@ -32,33 +33,63 @@ Tables =
     → refusal s short l ≡ accepted
     → (cells : List ℤ) × Table (VCs s l) (VDs s l) cells
 
+-- how a caller lends the held credits: all of them, in a slice that goes on beyond them with anything; or the first n alone
+pub data Lending : Type 0 where
+  whole : List ℤ → Lending
+  short : ℕ → Lending
+
+abbrev pub slice : List ℤ → Lending → List ℤ
+slice credits (whole beyond) = credits ++ beyond
+slice credits (short n) = take n credits
+
+pub lent-so : (credits : List ℤ) (d : Lending) → Lent credits (slice credits d)
+lent-so credits (whole beyond) =
+    take-all (length (credits ++ beyond)) credits (omega (arith, length-append credits beyond)) ∙ sym (take-append-seam credits beyond)
+lent-so credits (short n) =
+    take-of-take n credits ∙ sym (take-all (length credits) (take n credits) (omega (arith, length-take n credits)))
+  where
+    take-of-take : (n : ℕ) (xs : List ℤ) → take (length (take n xs)) xs ≡ take n xs
+    take-of-take zero xs = refl
+    take-of-take (suc n) [] = refl
+    take-of-take (suc n) (x ∷ xs) = ap (λ (r : List ℤ). x ∷ r) (take-of-take n xs)
+
 -- what a caller picks for a closing, besides the ledger and the held credits that it has
 pub record Input : Type 0 where
+  pub lines : Lines
+  pub lent : Lending
+  pub cells : List ℤ
+  pub work : List ℕ
+
+-- what a closing is handed besides the ledger: a call was, and a caller with these credits hands for an input
+pub record Handed : Type 0 where
+  pub held : List ℤ
   pub lines : Lines
   pub cells : List ℤ
   pub work : List ℕ
 
-abbrev pub picked : Call → Input
-picked c = record { lines = c .lines; cells = c .cells; work = c .work }
+abbrev pub handed : Call → Handed
+handed c = record { held = c .held; lines = c .lines; cells = c .cells; work = c .work }
+
+abbrev pub handing : List ℤ → Input → Handed
+handing credits i = record { held = slice credits (i .lent); lines = i .lines; cells = i .cells; work = i .work }
 
 -- a promised closing of this input
-pub record One (g : Ledger) (held : List ℤ) (i : Input) : Type 0 where
+pub record One (g : Ledger) (credits : List ℤ) (i : Input) : Type 0 where
   pub call : Call
   pub ledger : call .ledger ≡ g
-  pub credits : call .held ≡ held
-  pub same : picked call ≡ i
+  pub same : handed call ≡ handing credits i
   pub promised : Promised call
 
 one-of :
-    (g : Ledger) (held : List ℤ) (i : Input) (r : Outcome) (held′ cells′ : List ℤ) (work′ : List ℕ)
-    → Closes g held (i .lines) (i .cells) (i .work) r held′ cells′ work′
-    → One g held i
-one-of g held i r held′ cells′ work′ c =
+    (g : Ledger) (credits : List ℤ) (i : Input) (r : Outcome) (held′ cells′ : List ℤ) (work′ : List ℕ)
+    → Closes g (slice credits (i .lent)) (i .lines) (i .cells) (i .work) r held′ cells′ work′
+    → One g credits i
+one-of g credits i r held′ cells′ work′ c =
     record {
       call =
           record {
             ledger = g;
-            held = held;
+            held = slice credits (i .lent);
             lines = i .lines;
             cells = i .cells;
             work = i .work;
@@ -68,17 +99,19 @@ one-of g held i r held′ cells′ work′ c =
             workLeft = work′;
           };
       ledger = refl;
-      credits = refl;
       same = refl;
       promised = c;
     }
 
-pub one : Tables → (g : Ledger) (held : List ℤ) (i : Input) → One g held i
-one tables g held i = go (closingRefusal g held (i .cells) (i .work) (i .lines)) refl
+pub one : Tables → (g : Ledger) (credits : List ℤ) (i : Input) → One g credits i
+one tables g credits i = go (closingRefusal g (slice credits (i .lent)) (i .cells) (i .work) (i .lines)) refl
   where
-    go : (v : Verdict) → closingRefusal g held (i .cells) (i .work) (i .lines) ≡ v → One g held i
-    go (refused n p) e = one-of g held i _ held (i .cells) (i .work) (closes-refused g held (i .lines) (i .cells) (i .work) n p e)
+    go : (v : Verdict) → closingRefusal g (slice credits (i .lent)) (i .cells) (i .work) (i .lines) ≡ v → One g credits i
+    go (refused n p) e =
+        let held = slice credits (i .lent) in
+        one-of g credits i _ held (i .cells) (i .work) (closes-refused g held (i .lines) (i .cells) (i .work) n p e)
     go accepted e =
+        let held = slice credits (i .lent) in
         let n = lengthsOf held (i .cells) (i .work) in
         let s = stateOf g held in
         let short = shortSlices s n in
@@ -88,25 +121,32 @@ one tables g held i = go (closingRefusal g held (i .cells) (i .work) (i .lines))
         let rows : length (VCs s (i .lines)) ≡ suc (g .agents) = length-VCs s (i .lines) ∙ ap suc (q .agents) in
         let columns : length (VDs s (i .lines)) ≡ g .users = length-VDs s (i .lines) (w ∙ sym (q .users)) ∙ q .users in
         let size : length (t .0) ≡ cellsNeeded (g .users) (g .agents) = t .1 .size ∙ ap₂ _*_ rows columns ∙ omega arith in
-        one-of g held i _ _ _ (i .work) (closes-accepted g held (i .lines) (i .cells) (i .work) (t .0) (i .work) e (t .1) size refl)
+        one-of g credits i _ _ _ (i .work) (closes-accepted g held (i .lines) (i .cells) (i .work) (t .0) (i .work) e (t .1) size refl)
+
+-- these closings are of these inputs, each lent the credits that the one before left
+unfoldable pub Of : List ℤ → List Call → List Input → Type 0
+Of credits [] [] = Unit {0}
+Of credits [] (i ∷ is) = ⊥
+Of credits (c ∷ cs) [] = ⊥
+Of credits (c ∷ cs) (i ∷ is) = (handed c ≡ handing credits i) × Of (leftIn credits (c .heldLeft)) cs is
 
 -- promised closings of these inputs that follow each other
-pub record Run (g : Ledger) (held : List ℤ) (inputs : List Input) : Type 0 where
+pub record Run (g : Ledger) (credits : List ℤ) (inputs : List Input) : Type 0 where
   pub calls : List Call
-  pub same : map picked calls ≡ inputs
-  pub chain : Chain g held calls
+  pub same : Of credits calls inputs
+  pub chain : Chain g credits calls
   pub promised : AllPromised calls
 
-pub run : Tables → (g : Ledger) (held : List ℤ) (inputs : List Input) → Run g held inputs
-unfolding Chain AllPromised
-run tables g held [] = record { calls = []; same = refl; chain = tt; promised = tt }
-run tables g held (i ∷ is) =
-    let o = one tables g held i in
-    let r = run tables (o .call .outcome .ledger) (o .call .heldLeft) is in
+pub run : Tables → (g : Ledger) (credits : List ℤ) (inputs : List Input) → Run g credits inputs
+unfolding Chain AllPromised Of
+run tables g credits [] = record { calls = []; same = tt; chain = tt; promised = tt }
+run tables g credits (i ∷ is) =
+    let o = one tables g credits i in
+    let r = run tables (o .call .outcome .ledger) (leftIn credits (o .call .heldLeft)) is in
     record {
       calls = o .call ∷ r .calls;
-      same = ap₂ (λ (x : Input) (xs : List Input). x ∷ xs) (o .same) (r .same);
-      chain = (o .ledger, o .credits, r .chain);
+      same = (o .same, r .same);
+      chain = (o .ledger, subst (Lent credits) (sym (ap (λ (h : Handed). h .held) (o .same))) (lent-so credits (i .lent)), r .chain);
       promised = (o .promised, r .promised);
     }
 
@@ -116,7 +156,7 @@ pub record Some (users agents : ℕ) (held : List ℤ) (inputs : List Input) : T
   pub heldLeft : List ℤ
   pub opens : Opens users agents held outcome heldLeft
   pub answer : outcome .answer ≡ Accepted
-  pub run : Run (outcome .ledger) heldLeft inputs
+  pub run : Run (outcome .ledger) (take users heldLeft) inputs
 
 pub some :
     Tables

@@ -1,10 +1,12 @@
--- Demand 3 at work, with nothing assumed: the month of paper 01's example file closed on a new ledger, then handed in again and refused.
+-- Demand 3 at work, with nothing assumed, each closing lent the held credits in a slice of its own: the month of paper 01's example file is
+-- closed on a new ledger; in the next a credit is left; the third is refused for a slice too short, and the credits stay; the first is
+-- handed in again and refused.
 use Prim.Native.Nat.{ℕ, zero, suc, _<_}
 use mathlib.Core.Path.{_≡_, refl, subst, subst₂}
 use mathlib.Core.List.{List, [], _∷_, _++_, map}
 use native.Mathlib.Omega.{arith}
-use lib.IntN.{ℤ, pos, _*ℤ_}
-use lib.ListN.{getD, replicate}
+use lib.IntN.{ℤ, pos, negsuc, _*ℤ_}
+use lib.ListN.{length, getD, replicate}
 use Rattle.ints.specs.Floor.{floor}
 use Rattle.ints.specs.Range.{outside}
 use Rattle.ints.specs.Sums.{sumℤ, Σ<}
@@ -21,155 +23,271 @@ use Rattle.rules.specs.Credits.{VMPA, VMST, ownCredit, ownCredits, SMSEF
 use Rattle.rules.specs.Table.{Cell, rounded-down, cellAt, Table}
 use Rattle.rules.specs.Refusals.{badCounts, shortSlices, badMonth, countTests, stateTests, linesBeforePoints}
 use Rattle.rules.specs.Refusals.{lineTests, sumTests, refusal, openingRefusal}
-use Rattle.rules.specs.Calls.{Opens, stateOf, closingRefusal, Closes}
-use Rattle.rules.specs.Demand.{Call, Chain, AllPromised, Demand3}
+use Rattle.rules.specs.Calls.{Opens, stateOf, closingRefusal}
+use Rattle.rules.specs.Demand.{Call, Promised, leftIn, Chain, AllPromised, lastCredits, Demand3}
 use Rattle.rules.proofs.Promise.{opens-accepted, closes-accepted, closes-refused}
 use Rattle.rules.proofs.Demand.{demand-3}
 
--- the example file's lines
-abbrev july : Lines
-july =
+-- the example file's lines, in this month and with this correction of the first user; in August it is owed more than it is charged
+abbrev lines : ℤ → ℤ → Lines
+lines month ret =
     record {
-      line = record { month = pos 202407; ons = pos 100 };
+      line = record { month = month; ons = pos 100 };
       agents =
           agentOf (map pos (1 ∷ 1000 ∷ 0 ∷ 0 ∷ 0 ∷ 0 ∷ 4 ∷ []))
           ∷ agentOf (map pos (2 ∷ 2000 ∷ 30 ∷ 0 ∷ 0 ∷ 25 ∷ 0 ∷ []))
           ∷ [];
-      users = userOf (map pos (1 ∷ 2 ∷ 0 ∷ [])) ∷ userOf (map pos (2 ∷ 3 ∷ 0 ∷ [])) ∷ [];
+      users = userOf (pos 1 ∷ pos 2 ∷ ret ∷ []) ∷ userOf (map pos (2 ∷ 3 ∷ 0 ∷ [])) ∷ [];
       points =
           pointOf (map pos (1 ∷ 1000 ∷ 500 ∷ 0 ∷ 0 ∷ 3 ∷ 2 ∷ 3 ∷ 2 ∷ []))
           ∷ pointOf (map pos (2 ∷ 2000 ∷ 0 ∷ 50 ∷ 0 ∷ 16 ∷ 0 ∷ 16 ∷ 0 ∷ []))
           ∷ [];
     }
 
--- a slice of held credits of three entries, for two users; what it held before the opening, and from then on
+abbrev july : Lines
+july = lines (pos 202407) (pos 0)
+
+abbrev august : Lines
+august = lines (pos 202408) (negsuc 449)
+
+abbrev september : Lines
+september = lines (pos 202409) (pos 0)
+
+-- a slice of three entries, for two users: what it held before the opening, and after it
 abbrev before : List ℤ
 before = pos 5 ∷ pos 6 ∷ pos 77 ∷ []
 
-abbrev held : List ℤ
-held = pos 0 ∷ pos 0 ∷ pos 77 ∷ []
+abbrev after-opening : List ℤ
+after-opening = pos 0 ∷ pos 0 ∷ pos 77 ∷ []
+
+-- the slices that lend the credits: that of July, and of August, before it and after it; one entry for two users; the credits alone
+abbrev held₁ : List ℤ
+held₁ = pos 0 ∷ pos 0 ∷ pos 88 ∷ []
+
+abbrev held₂ : List ℤ
+held₂ = pos 0 ∷ pos 0 ∷ pos 8 ∷ pos 9 ∷ []
+
+abbrev left₂ : List ℤ
+left₂ = pos 56 ∷ pos 0 ∷ pos 8 ∷ pos 9 ∷ []
+
+abbrev too-short : List ℤ
+too-short = pos 56 ∷ []
+
+abbrev credits : List ℤ
+credits = pos 56 ∷ pos 0 ∷ []
+
+-- the ledger of the two counts, with this last closed month
+abbrev ledger : ℤ → Ledger
+ledger month = record { users = 2; agents = 2; month = month }
 
 abbrev new : Ledger
-new = record { users = 2; agents = 2; month = pos 0 }
+new = ledger (pos 0)
 
-abbrev closed : Ledger
-closed = record { users = 2; agents = 2; month = pos 202407 }
-
+-- a cells slice of seven entries, before and after each accepted month
 abbrev cells : List ℤ
 cells = replicate 7 (pos 9)
 
-abbrev table : List ℤ
-table = pos 127 ∷ pos 508 ∷ pos 247 ∷ pos 988 ∷ pos 20 ∷ pos 80 ∷ []
+abbrev table₁ : List ℤ
+table₁ = pos 127 ∷ pos 508 ∷ pos 247 ∷ pos 988 ∷ pos 20 ∷ pos 80 ∷ []
 
-abbrev cells′ : List ℤ
-cells′ = table ++ pos 9 ∷ []
+abbrev table₂ : List ℤ
+table₂ = pos 0 ∷ pos 504 ∷ pos 0 ∷ pos 972 ∷ pos 0 ∷ pos 100 ∷ []
+
+abbrev cells₁ : List ℤ
+cells₁ = table₁ ++ pos 9 ∷ []
+
+abbrev cells₂ : List ℤ
+cells₂ = table₂ ++ pos 9 ∷ []
 
 abbrev work : List ℕ
 work = replicate 32 0
 
-first : closingRefusal new held cells work july ≡ accepted
+-- ---- the verdict on each closing
+in-july : closingRefusal new held₁ cells work july ≡ accepted
 unfolding refusal badCounts shortSlices badMonth countTests stateTests linesBeforePoints lineTests sumTests eachLine badAgent badUser badPoint unfitPoint
     outside impossibleMonth monthOfYear floor eachFrom sideBySide sumℤ halfUp orZero useCharge allowance excess overrun ofUser EUSTs overrunSums VMEs pvTotal
     CPVs ns VDs part partsFrom runningShare kindOf
-first = refl
+in-july = refl
 
-again : closingRefusal closed held cells′ work july ≡ refused 3 0
+in-august : closingRefusal (ledger (pos 202407)) held₂ cells₁ work august ≡ accepted
+unfolding refusal badCounts shortSlices badMonth countTests stateTests linesBeforePoints lineTests sumTests eachLine badAgent badUser badPoint unfitPoint
+    outside impossibleMonth monthOfYear floor eachFrom sideBySide sumℤ halfUp orZero useCharge allowance excess overrun ofUser EUSTs overrunSums VMEs pvTotal
+    CPVs ns VDs part partsFrom runningShare kindOf
+in-august = refl
+
+in-september : closingRefusal (ledger (pos 202408)) too-short cells₂ work september ≡ refused 2 1
+unfolding refusal countTests badCounts shortSlices impossibleMonth monthOfYear floor outside
+in-september = refl
+
+again : closingRefusal (ledger (pos 202408)) credits cells₂ work july ≡ refused 3 0
 unfolding refusal countTests stateTests badCounts shortSlices badMonth impossibleMonth monthOfYear floor outside
 again = refl
 
--- its credits and debits, and a table of them: here every exact value is whole
-credits-are : pos 635 ∷ pos 1235 ∷ pos 100 ∷ [] ≡ VCs (stateOf new held) july
+-- ---- credits and debits of the accepted ones, and a table of them: here every exact value is whole
+VCs₁ : pos 635 ∷ pos 1235 ∷ pos 100 ∷ [] ≡ VCs (stateOf new held₁) july
 unfolding VCsFrom agentVCsFrom VMANTsFrom SMSEFrom ownCredits ownCredit VMST VMPA cycleMonth monthOfYear floor eachFrom sideBySide sumℤ halfUp orZero useCharge
     allowance excess overrun ofUser EUSTs overrunSums VMEs pvTotal CPVs ns VDs part partsFrom runningShare
-credits-are = refl
+VCs₁ = refl
 
-debits-are : pos 394 ∷ pos 1576 ∷ [] ≡ VDs (stateOf new held) july
+VDs₁ : pos 394 ∷ pos 1576 ∷ [] ≡ VDs (stateOf new held₁) july
 unfolding floor eachFrom sideBySide sumℤ halfUp orZero useCharge allowance excess overrun ofUser EUSTs overrunSums VMEs pvTotal CPVs ns VDs part partsFrom
     runningShare
-debits-are = refl
+VDs₁ = refl
 
-left : newCredits (stateOf new held) july ≡ pos 0 ∷ pos 0 ∷ []
+new₁ : newCredits (stateOf new held₁) july ≡ pos 0 ∷ pos 0 ∷ []
 unfolding floor eachFrom sideBySide sumℤ halfUp orZero useCharge allowance excess overrun ofUser EUSTs overrunSums VMEs pvTotal CPVs ns newCredits part
     partsFrom runningShare
-left = refl
+new₁ = refl
 
-abbrev vc : List ℤ
-vc = pos 635 ∷ pos 1235 ∷ pos 100 ∷ []
+VCs₂ : pos 504 ∷ pos 972 ∷ pos 100 ∷ [] ≡ VCs (stateOf (ledger (pos 202407)) held₂) august
+unfolding VCsFrom agentVCsFrom VMANTsFrom SMSEFrom ownCredits ownCredit VMST VMPA cycleMonth monthOfYear floor eachFrom sideBySide sumℤ halfUp orZero useCharge
+    allowance excess overrun ofUser EUSTs overrunSums VMEs pvTotal CPVs ns VDs part partsFrom runningShare
+VCs₂ = refl
 
-abbrev vd : List ℤ
-vd = pos 394 ∷ pos 1576 ∷ []
+VDs₂ : pos 0 ∷ pos 1576 ∷ [] ≡ VDs (stateOf (ledger (pos 202407)) held₂) august
+unfolding floor eachFrom sideBySide sumℤ halfUp orZero useCharge allowance excess overrun ofUser EUSTs overrunSums VMEs pvTotal CPVs ns VDs part partsFrom
+    runningShare
+VDs₂ = refl
 
-cell : (i j : ℕ) → i < 3 → j < 2 → Cell (getD vc i (pos 0) *ℤ getD vd j (pos 0)) (sumℤ vd) (cellAt 2 table i j)
-unfolding floor sumℤ
-cell zero zero p q = rounded-down refl
-cell zero (suc zero) p q = rounded-down refl
-cell (suc zero) zero p q = rounded-down refl
-cell (suc zero) (suc zero) p q = rounded-down refl
-cell (suc (suc zero)) zero p q = rounded-down refl
-cell (suc (suc zero)) (suc zero) p q = rounded-down refl
-cell (suc (suc (suc i))) j p q = absurd (omega arith)
-cell zero (suc (suc j)) p q = absurd (omega arith)
-cell (suc zero) (suc (suc j)) p q = absurd (omega arith)
-cell (suc (suc zero)) (suc (suc j)) p q = absurd (omega arith)
+new₂ : newCredits (stateOf (ledger (pos 202407)) held₂) august ≡ credits
+unfolding floor eachFrom sideBySide sumℤ halfUp orZero useCharge allowance excess overrun ofUser EUSTs overrunSums VMEs pvTotal CPVs ns newCredits part
+    partsFrom runningShare
+new₂ = refl
 
-row : (i : ℕ) → i < 3 → Σ< 2 (λ j. cellAt 2 table i j) ≡ getD vc i (pos 0)
-unfolding Σ<
-row zero p = refl
-row (suc zero) p = refl
-row (suc (suc zero)) p = refl
-row (suc (suc (suc i))) p = absurd (omega arith)
+-- three rows and two columns, one by one
+each-row : (P : ℕ → Type 0) → P 0 → P 1 → P 2 → (i : ℕ) → i < 3 → P i
+each-row P a b c zero h = a
+each-row P a b c (suc zero) h = b
+each-row P a b c (suc (suc zero)) h = c
+each-row P a b c (suc (suc (suc i))) h = absurd (omega arith)
 
-column : (j : ℕ) → j < 2 → Σ< 3 (λ i. cellAt 2 table i j) ≡ getD vd j (pos 0)
-unfolding Σ<
-column zero q = refl
-column (suc zero) q = refl
-column (suc (suc j)) q = absurd (omega arith)
+each-column : (P : ℕ → Type 0) → P 0 → P 1 → (j : ℕ) → j < 2 → P j
+each-column P a b zero h = a
+each-column P a b (suc zero) h = b
+each-column P a b (suc (suc j)) h = absurd (omega arith)
 
-table-is : Table (VCs (stateOf new held) july) (VDs (stateOf new held) july) table
-table-is = subst₂ (λ (x y : List ℤ). Table x y table) credits-are debits-are (record { size = refl; cell = cell; row = row; column = column })
+-- a table of three payees and two users, each exact value being whole
+module _ (a b c d e : ℤ) (t : List ℤ) where
+  abbrev vc : List ℤ
+  vc = a ∷ b ∷ c ∷ []
 
--- the opening and the two closings
-opening : Opens 2 2 before (record { answer = Accepted; ledger = new }) held
+  abbrev vd : List ℤ
+  vd = d ∷ e ∷ []
+
+  abbrev Whole : ℕ → ℕ → Type 0
+  Whole i j = cellAt 2 t i j ≡ floor (getD vc i (pos 0) *ℤ getD vd j (pos 0)) (sumℤ vd)
+
+  abbrev Row : ℕ → Type 0
+  Row i = Σ< 2 (λ j. cellAt 2 t i j) ≡ getD vc i (pos 0)
+
+  abbrev Column : ℕ → Type 0
+  Column j = Σ< 3 (λ i. cellAt 2 t i j) ≡ getD vd j (pos 0)
+
+  whole-table :
+      length t ≡ 6
+      → Whole 0 0 → Whole 0 1 → Whole 1 0 → Whole 1 1 → Whole 2 0 → Whole 2 1
+      → Row 0 → Row 1 → Row 2
+      → Column 0 → Column 1
+      → Table vc vd t
+  whole-table n w₀₀ w₀₁ w₁₀ w₁₁ w₂₀ w₂₁ r₀ r₁ r₂ c₀ c₁ =
+      record {
+        size = n;
+        cell = λ i j p q.
+            rounded-down
+            (each-row (λ x. Whole x j) (each-column (Whole 0) w₀₀ w₀₁ j q) (each-column (Whole 1) w₁₀ w₁₁ j q) (each-column (Whole 2) w₂₀ w₂₁ j q) i p);
+        row = each-row Row r₀ r₁ r₂;
+        column = each-column Column c₀ c₁;
+      }
+
+table₁-is : Table (VCs (stateOf new held₁) july) (VDs (stateOf new held₁) july) table₁
+unfolding floor sumℤ Σ<
+table₁-is =
+    subst₂ (λ (x y : List ℤ). Table x y table₁) VCs₁ VDs₁
+    (whole-table (pos 635) (pos 1235) (pos 100) (pos 394) (pos 1576) table₁ refl refl refl refl refl refl refl refl refl refl refl refl)
+
+table₂-is : Table (VCs (stateOf (ledger (pos 202407)) held₂) august) (VDs (stateOf (ledger (pos 202407)) held₂) august) table₂
+unfolding floor sumℤ Σ<
+table₂-is =
+    subst₂ (λ (x y : List ℤ). Table x y table₂) VCs₂ VDs₂
+    (whole-table (pos 504) (pos 972) (pos 100) (pos 0) (pos 1576) table₂ refl refl refl refl refl refl refl refl refl refl refl refl)
+
+-- ---- the opening and the four closings
+opening : Opens 2 2 before (record { answer = Accepted; ledger = new }) after-opening
 unfolding openingRefusal
 opening = opens-accepted 2 2 before refl
 
-abbrev calls : List Call
-calls =
+-- a closing that was accepted in this month, and one that was refused and so changed nothing
+abbrev closed : Ledger → List ℤ → Lines → List ℤ → List ℤ → List ℤ → Call
+closed g held l cells held′ cells′ =
     record {
-      ledger = new;
+      ledger = g;
       held = held;
-      lines = july;
+      lines = l;
       cells = cells;
       work = work;
-      outcome = record { answer = Accepted; ledger = closed };
-      heldLeft = held;
+      outcome = record { answer = Accepted; ledger = ledger (l .line .month) };
+      heldLeft = held′;
       cellsLeft = cells′;
       workLeft = work;
     }
-    ∷ record {
-      ledger = closed;
+
+abbrev not-closed : Ledger → List ℤ → Lines → List ℤ → ℕ → ℕ → Call
+not-closed g held l cells n p =
+    record {
+      ledger = g;
       held = held;
-      lines = july;
-      cells = cells′;
+      lines = l;
+      cells = cells;
       work = work;
-      outcome = record { answer = Refused 3 0; ledger = closed };
+      outcome = record { answer = Refused n p; ledger = g };
       heldLeft = held;
-      cellsLeft = cells′;
+      cellsLeft = cells;
       workLeft = work;
     }
+
+abbrev calls : List Call
+calls =
+    closed new held₁ july cells held₁ cells₁
+    ∷ closed (ledger (pos 202407)) held₂ august cells₁ left₂ cells₂
+    ∷ not-closed (ledger (pos 202408)) too-short september cells₂ 2 1
+    ∷ not-closed (ledger (pos 202408)) credits july cells₂ 3 0
     ∷ []
+
+first : Promised (closed new held₁ july cells held₁ cells₁)
+first =
+    subst (λ (x : List ℤ). Promised (closed new held₁ july cells (x ++ pos 88 ∷ []) cells₁)) new₁
+    (closes-accepted new held₁ july cells work table₁ work in-july table₁-is refl refl)
+
+second : Promised (closed (ledger (pos 202407)) held₂ august cells₁ left₂ cells₂)
+second =
+    subst (λ (x : List ℤ). Promised (closed (ledger (pos 202407)) held₂ august cells₁ (x ++ pos 8 ∷ pos 9 ∷ []) cells₂)) new₂
+    (closes-accepted (ledger (pos 202407)) held₂ august cells₁ work table₂ work in-august table₂-is refl refl)
 
 promised : AllPromised calls
 unfolding AllPromised
 promised = (
-  subst (λ (x : List ℤ). Closes new held july cells work (record { answer = Accepted; ledger = closed }) (x ++ pos 77 ∷ []) cells′ work) left
-      (closes-accepted new held july cells work table work first table-is refl refl),
-  (closes-refused closed held july cells′ work 3 0 again, tt),
+  first,
+  (
+    second,
+    (
+      closes-refused (ledger (pos 202408)) too-short september cells₂ work 2 1 in-september,
+      (closes-refused (ledger (pos 202408)) credits july cells₂ work 3 0 again, tt),
+    ),
+  ),
 )
 
-chain : Chain new held calls
-unfolding Chain
-chain = (refl, refl, (refl, refl, tt))
+-- the slice too short leaves the credits as they were, the second user's too
+kept : leftIn credits too-short ≡ credits
+kept = refl
 
-pub worked : Demand3 2 2 before new held calls
-worked = demand-3 2 2 before _ held opening refl calls chain promised
+chain : Chain new (pos 0 ∷ pos 0 ∷ []) calls
+unfolding Chain
+chain = (refl, refl, (refl, refl, (refl, refl, (refl, refl, tt))))
+
+pub worked : Demand3 2 2 before new after-opening calls
+worked = demand-3 2 2 before _ after-opening opening refl calls chain promised
+
+-- so at the end they stand where August left them
+last : lastCredits (pos 0 ∷ pos 0 ∷ []) calls ≡ credits
+unfolding lastCredits
+last = refl

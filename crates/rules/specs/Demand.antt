@@ -2,9 +2,9 @@
 -- demand 3").
 use Prim.Native.Nat.{ℕ, suc, _<_}
 use mathlib.Core.Path.{_≡_}
-use mathlib.Core.List.{List, [], _∷_, map}
+use mathlib.Core.List.{List, [], _∷_, _++_, map}
 use lib.IntN.{ℤ, pos, _+ℤ_, _-ℤ_, _*ℤ_}
-use lib.ListN.{drop, getD}
+use lib.ListN.{length, take, drop, getD}
 use lib.Signed.{_<ℤ_}
 use Rattle.ints.specs.Bridge.{abs}
 use Rattle.ints.specs.Sums.{sumℤ, Σ<}
@@ -35,10 +35,18 @@ pub record Call : Type 0 where
 abbrev pub Promised : Call → Type 0
 Promised c = Closes (c .ledger) (c .held) (c .lines) (c .cells) (c .work) (c .outcome) (c .heldLeft) (c .cellsLeft) (c .workLeft)
 
--- each closing is handed the ledger and the held credits that the one before it answered and left; the first, those of the opening
+-- the credits lent in a slice: the two agree as far as both reach. The slice may go on beyond the credits with anything, or end before them
+abbrev pub Lent : List ℤ → List ℤ → Type 0
+Lent credits held = take (length held) credits ≡ take (length credits) held
+
+-- the credits after a call that left the slice so: as far as it reaches what it holds, past its end as they were
+abbrev pub leftIn : List ℤ → List ℤ → List ℤ
+leftIn credits held′ = take (length credits) held′ ++ drop (length held′) credits
+
+-- each closing is handed the ledger that the one before it answered and is lent the credits that it left; the first, those of the opening
 unfoldable pub Chain : Ledger → List ℤ → List Call → Type 0
-Chain g held [] = Unit {0}
-Chain g held (c ∷ cs) = (c .ledger ≡ g) × (c .held ≡ held) × Chain (c .outcome .ledger) (c .heldLeft) cs
+Chain g credits [] = Unit {0}
+Chain g credits (c ∷ cs) = (c .ledger ≡ g) × Lent credits (c .held) × Chain (c .outcome .ledger) (leftIn credits (c .heldLeft)) cs
 
 -- every call of a list kept its promise
 unfoldable pub AllPromised : List Call → Type 0
@@ -54,9 +62,14 @@ unfoldable pub lastLedger : Ledger → List Call → Ledger
 lastLedger g [] = g
 lastLedger g (c ∷ cs) = lastLedger (c .outcome .ledger) cs
 
-unfoldable pub lastHeld : List ℤ → List Call → List ℤ
-lastHeld held [] = held
-lastHeld held (c ∷ cs) = lastHeld (c .heldLeft) cs
+unfoldable pub lastCredits : List ℤ → List Call → List ℤ
+lastCredits credits [] = credits
+lastCredits credits (c ∷ cs) = lastCredits (leftIn credits (c .heldLeft)) cs
+
+-- every call left its held slice as long as it was, and entries beyond the users as they were
+unfoldable pub AllBeyond : ℕ → List Call → Type 0
+AllBeyond users [] = Unit {0}
+AllBeyond users (c ∷ cs) = (drop users (c .heldLeft) ≡ drop users (c .held)) × (length (c .heldLeft) ≡ length (c .held)) × AllBeyond users cs
 
 -- an entry of the cells slice as each accepted closing left it, added over the accepted closings
 unfoldable pub billed : (List ℤ → ℤ) → List Call → ℤ
@@ -87,9 +100,11 @@ AllNear s (c ∷ cs) =
 pub record Demand3 (users agents : ℕ) (heldAtOpening : List ℤ) (g : Ledger) (held : List ℤ) (cs : List Call) : Type 0 where
   -- each closing was accepted or refused, with number and place, as the tally says
   pub answers : map (λ (c : Call). verdictOf (c .outcome .answer)) cs ≡ verdicts (opened users agents) (map fed cs)
-  -- the last ledger and held credits stand for the tally; entries beyond the users are as they were before the opening
-  pub state : stateOf (lastLedger g cs) (lastHeld held cs) ≡ after (opened users agents) (map fed cs)
-  pub beyond : drop users (lastHeld held cs) ≡ drop users heldAtOpening
+  -- the last ledger and held credits stand for the tally
+  pub state : stateOf (lastLedger g cs) (lastCredits (take users held) cs) ≡ after (opened users agents) (map fed cs)
+  -- opening and every closing left entries beyond the users as they were
+  pub beyond-opening : drop users held ≡ drop users heldAtOpening
+  pub beyond : AllBeyond users cs
   -- a user's billed cells are its charges less compensation of the accepted months plus the credit that it still holds
   pub user-total :
       (j : ℕ)
@@ -100,3 +115,19 @@ pub record Demand3 (users agents : ℕ) (heldAtOpening : List ℤ) (g : Ledger) 
   pub payee-total : (i : ℕ) → i < suc agents → billedByPayee users i cs ≡ added (payeeCredit i) (opened users agents) (map fed cs)
   -- every cell of an accepted month lies less than one cent from its exact value
   pub one-cent : AllNear (opened users agents) cs
+
+-- ---- the very same slice throughout
+-- each closing is handed the ledger that the one before it answered and the slice that it left, tail and length included
+unfoldable pub SameSlice : Ledger → List ℤ → List Call → Type 0
+SameSlice g held [] = Unit {0}
+SameSlice g held (c ∷ cs) = (c .ledger ≡ g) × (c .held ≡ held) × SameSlice (c .outcome .ledger) (c .heldLeft) cs
+
+-- that slice after the list
+unfoldable pub lastHeld : List ℤ → List Call → List ℤ
+lastHeld held [] = held
+lastHeld held (c ∷ cs) = lastHeld (c .heldLeft) cs
+
+-- what it holds then: the tally's credits, and beyond the users what it held before the opening
+pub record SliceLeft (users agents : ℕ) (heldAtOpening : List ℤ) (g : Ledger) (held : List ℤ) (cs : List Call) : Type 0 where
+  pub state : stateOf (lastLedger g cs) (lastHeld held cs) ≡ after (opened users agents) (map fed cs)
+  pub beyond : drop users (lastHeld held cs) ≡ drop users heldAtOpening
