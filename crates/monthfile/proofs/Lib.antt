@@ -12,6 +12,12 @@
 --   WholeFile   all of it is format's reading (`whole-read`)
 -- What the walks by hand share:
 --   Walks       locals by their numbers, slices lent on, calls
+-- What a caller has of the calls:
+--   Pins          their contracts, written out
+--   Learnt        what the contracts of the walked ones tell
+--   Promised      what `Reads` promises is demand 1
+--   Demand1       DEMAND 1 of reading and of the file check, over what a caller learns
+--   ReadIsReadAt  `read` is `read_at` at the reader's position
 pub mod Joining
 pub mod ValueSteps
 pub mod LineSteps
@@ -23,3 +29,8 @@ pub mod FileSteps
 pub mod PointSteps
 pub mod WholeFile
 pub mod Walks
+pub mod Pins
+pub mod Learnt
+pub mod Promised
+pub mod Demand1
+pub mod ReadIsReadAt

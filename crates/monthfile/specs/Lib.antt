@@ -2,7 +2,9 @@
 -- At        what is read at a place of the text, by format's definitions
 -- Reads     what reading one file answers and writes: format's `reading`
 -- Parts     the parts in which reading is done
+-- Demand1   demand 1 of one reading, in paper 01's words
 pub mod Passing
 pub mod At
 pub mod Reads
 pub mod Parts
+pub mod Demand1

@@ -5,12 +5,12 @@
 //   values, rows, reading  the values of an accepted file: a line, the lines of a block, the whole reading into lines
 //   points, reader         the same with the points in a lent slice of records, and the record that holds text and position
 pub mod check;
-pub mod line;
-pub mod names;
+mod line;
+mod names;
 pub mod points;
 pub mod reader;
 pub mod reading;
-pub mod rows;
-pub mod scanner;
-pub mod value;
-pub mod values;
+mod rows;
+mod scanner;
+mod value;
+mod values;

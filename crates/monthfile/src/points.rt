@@ -19,12 +19,12 @@ use rules::Point;
 use rules::UserLine;
 
 // A point, and the place after its line.
-pub struct PointRead {
+struct PointRead {
     pub point: Point,
     pub next: usize,
 }
 
-pub fn point_line(text: &[u8], at: usize) -> PointRead
+fn point_line(text: &[u8], at: usize) -> PointRead
     requires { ⌜ at ≤ length (now text) ⌝ }
     ensures { λ r. ⌜ PointAt (now (text .entry)) at r ⌝ }
 {
@@ -45,7 +45,7 @@ pub fn point_line(text: &[u8], at: usize) -> PointRead
 }
 
 // Whether a further line begins here and there is room for it.
-pub fn more_points(text: &[u8], at: usize, n: usize, room: usize) -> bool
+fn more_points(text: &[u8], at: usize, n: usize, room: usize) -> bool
     requires { ⌜ at ≤ length (now text) ⌝ }
     ensures { λ r. ⌜ r ≡ (ltb n room && lineHere (drop at (now (text .entry)))) ⌝ }
 {
@@ -56,7 +56,7 @@ pub fn more_points(text: &[u8], at: usize, n: usize, room: usize) -> bool
 }
 
 // The point lines from `at` on, at most `room` of them; how many there are is answered.
-pub fn points_at(text: &[u8], at: usize, room: usize, points: &mut [Point]) -> usize
+fn points_at(text: &[u8], at: usize, room: usize, points: &mut [Point]) -> usize
     requires { ⌜ (at ≤ length (now text)) × (room ≤ length (now points)) ⌝ }
     ensures { λ r. ⌜ PointsFilled pointOf (now (text .entry)) at room (now (points .entry)) (now (points .exit)) r ⌝ }
 {

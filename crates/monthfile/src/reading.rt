@@ -37,7 +37,7 @@ pub enum Reading {
 }
 
 // The month line, and the place after it.
-pub struct MonthRead {
+struct MonthRead {
     pub line: MonthLine,
     pub next: usize,
 }
@@ -60,7 +60,7 @@ fn month_at(text: &[u8], at: usize) -> MonthRead
 }
 
 // A file judged and, where it is accepted, read up to its points: from `at` on, `room` of them at most.
-pub struct Started {
+pub(crate) struct Started {
     pub verdict: Scanned,
     pub line: MonthLine,
     pub agents: usize,
@@ -110,7 +110,7 @@ fn nothing(verdict: Scanned) -> Started
 }
 
 // Starts, and where it is accepted read up to its points.
-pub fn judged(
+pub(crate) fn judged(
     text: &[u8],
     from: usize,
     agents: &mut [AgentLine],
@@ -128,7 +128,7 @@ pub fn judged(
 }
 
 // The answer, once the points are counted.
-pub fn answer(b: Started, points: usize) -> Reading
+pub(crate) fn answer(b: Started, points: usize) -> Reading
     ensures { λ r. ⌜ r ≡ answerOf b points ⌝ }
 {
     let verdict = b.verdict;
@@ -149,7 +149,7 @@ pub fn answer(b: Started, points: usize) -> Reading
 }
 
 // Where the position goes.
-pub fn next_of(r: Reading, from: usize) -> usize
+pub(crate) fn next_of(r: Reading, from: usize) -> usize
     ensures { λ n. ⌜ n ≡ nextOf r from ⌝ }
 {
     match r {

@@ -18,7 +18,7 @@ use crate::names::USERS;
 use format::Scanned;
 
 // How many lines the slices lent for them take: agents, users, points.
-pub type Slices = [usize; 3];
+type Slices = [usize; 3];
 
 // A line of names, which must be these.
 fn names(text: &[u8], i: usize, expected: &[u8]) -> Scanned

@@ -7,12 +7,12 @@ ghost use Rattle.format.specs.Values.{pastEnd, past};
 ghost use Rattle.monthfile.specs.At.{DigitsAt, ValueAt, LineAt, On, LeftAt};
 
 // A number read, and the place after it.
-pub struct Digits {
+struct Digits {
     pub number: u64,
     pub next: usize,
 }
 
-pub struct Value {
+struct Value {
     pub value: i64,
     pub next: usize,
 }
@@ -53,7 +53,7 @@ fn digits_at(text: &[u8], at: usize) -> Digits
     Digits { number, next: i }
 }
 
-pub fn value_at(text: &[u8], at: usize) -> Value
+fn value_at(text: &[u8], at: usize) -> Value
     requires { ⌜ at ≤ length (now text) ⌝ }
     ensures { λ r. ⌜ ValueAt (now (text .entry)) at r ⌝ }
 {

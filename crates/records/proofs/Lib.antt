@@ -1,7 +1,8 @@
--- `Walking`, `Entering` and `Handing` are what the walks by hand share; `Lines` is a local array of lines in memory; `Taking` the facts of the
--- loop over the points.
+-- `Walking`, `Entering` and `Handing` are what the walks by hand share; `Learnt` is what a caller learns from the contract of a walked function;
+-- `Lines` is a local array of lines in memory; `Taking` the facts of the loop over the points.
 pub mod Entering
 pub mod Handing
+pub mod Learnt
 pub mod Lines
 pub mod Taking
 pub mod Walking
