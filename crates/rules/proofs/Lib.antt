@@ -3,7 +3,8 @@
 -- An accepted month: `Tests` takes a list of tests apart; `Fits` is a line with every value in its range; `Passed` is all that an
 -- accepted month has passed; `Sizes`, `Entries` and `ByLine` are the lengths and the entries of its lists of amounts.
 -- A loop over its lines: `Turns` is one test of each line, turn by turn; `Answers` reads an answer off its verdict.
--- Its table: `Near` is the one cent; `Slice` reads a table in the slice that it stands in.
+-- Its table: `Near` is the one cent; `Slice` reads a table in the slice that it stands in; `OneTable`: of whole values there is one.
+-- A rounding: `HalfUp` is the one number that lies so near.
 -- Demand 3: `Steps` holds one closing to one step of the tally, `Follow` a list of them, and `Demand` states the theorem.
 -- It is not empty: `Promise` proves a call's promise by cases, `Some` that promised lists of calls exist, and `Worked` is one.
 -- Guards, which a wrong definition would break: `Totals`, `Blind` (what an amount does not look at), `Cycle`, `Examples` of refusals;
@@ -20,6 +21,8 @@ pub mod Turns
 pub mod Answers
 pub mod Near
 pub mod Slice
+pub mod OneTable
+pub mod HalfUp
 pub mod Steps
 pub mod Follow
 pub mod Demand
