@@ -24,9 +24,10 @@ use Rattle.rules.specs.Credits.{VMPA, VMST, ownCredit, ownCredits, SMSEFrom, VM
 use Rattle.rules.specs.Table.{Cell, rounded-down, rounded-up}
 use Rattle.rules.specs.Refusals.{badCounts, shortSlices, badMonth, countTests, stateTests, linesBeforePoints, lineTests, sumTests, refusal}
 use Rattle.rules.specs.Tally.{after, verdicts}
+use Rattle.rules.proofs.OneTable.{one-table}
 use Rattle.cases.specs.Inputs.{these}
 use Rattle.cases.specs.ByHand.{A, B, C, D, E, F, G, H, I, J, All, byHand}
-use Rattle.cases.proofs.Tables.{table-of}
+use Rattle.cases.proofs.Tables.{table-of, whole-of}
 
 a : A
 unfolding reading scanAt scan readBlocks readLines readLine readValue readDigits format more line inValue enter step refusal badCounts shortSlices badMonth
@@ -36,6 +37,7 @@ unfolding reading scanAt scan readBlocks readLines readLine readValue readDigits
 a =
     record {
       read-whole = refl;
+      lines = refl;
       closed = refl;
       EUST = refl;
       VME = refl;
@@ -48,6 +50,7 @@ a =
       VMANT = refl;
       VC = refl;
       cells = table-of _ _ _ refl;
+      only = λ cells t. one-table (whole-of _ _ refl) t (table-of _ _ _ refl);
     }
 
 b : B

@@ -1,4 +1,4 @@
--- A test that tells whether a list of cells is a table, and that it says so only of tables.
+-- A test that tells whether a list of cells is a table, and that it says so only of tables; the same of whole values.
 use Prim.Native.Nat.{ℕ, zero, suc, _*_, _<_}
 use mathlib.Core.Path.{_≡_, refl, ap, _∙_}
 use mathlib.Core.Bool.{Bool, true, false, not, _&&_, _||_, false≢true}
@@ -15,6 +15,7 @@ use Rattle.ints.specs.Floor.{floor}
 use Rattle.ints.specs.Range.{eqZ, eqZ-true, eqZ-false}
 use Rattle.ints.specs.Sums.{sumℤ, Σ<}
 use Rattle.rules.specs.Table.{Cell, rounded-down, rounded-up, cellAt, Table}
+use Rattle.rules.proofs.OneTable.{AllWhole}
 
 -- a test of every number below n
 abbrev below : ℕ → (ℕ → Bool) → Bool
@@ -97,3 +98,16 @@ module _ (vc vd cells : List ℤ) where
         column = λ j h. eqZ-true (Σ< (length vc) (λ i. cellAt (length vd) cells i j)) (getD vd j (pos 0))
             (below-at (length vd) column-right (and-right (below (length vc) row-right) (below (length vd) column-right) t) j h);
       }
+
+-- every exact value is whole
+module _ (vc vd : List ℤ) where
+  abbrev wholeAt : ℕ → ℕ → Bool
+  wholeAt i j = isWhole (getD vc i (pos 0) *ℤ getD vd j (pos 0)) (sumℤ vd)
+
+  abbrev pub allWhole : Bool
+  allWhole = below (length vc) (λ i. below (length vd) (wholeAt i))
+
+  pub whole-of : allWhole ≡ true → AllWhole vc vd
+  whole-of e = record {
+    at = λ i j h k. eqZ-true _ _ (below-at (length vd) (wholeAt i) (below-at (length vc) (λ m. below (length vd) (wholeAt m)) e i h) j k);
+  }

@@ -8,15 +8,17 @@ use Rattle.share.specs.Running.{runningShare}
 use Rattle.format.specs.Bytes.{bytes}
 use Rattle.format.specs.Blocks.{slices}
 use Rattle.format.specs.Reading.{reading, accepted as read}
+use Rattle.format.proofs.Examples.{input, values}
 use Rattle.rules.specs.Verdict.{accepted}
 use Rattle.rules.specs.Calendar.{cycleMonth}
 use Rattle.rules.specs.Lines.{consumer}
 use Rattle.rules.specs.State.{State}
+use Rattle.rules.specs.July.{july}
 use Rattle.rules.specs.Charges.{EUSTs, VMEs, CPVs, ns, VDs, newCredits, useCharge, overrun}
 use Rattle.rules.specs.Credits.{VMPA, VMST, SMSE, VMANTs, VCs}
 use Rattle.rules.specs.Table.{Table}
 use Rattle.rules.specs.Tally.{opened, judged, after, verdicts}
-use Rattle.cases.specs.Inputs.{these, minus, text, file, july, enough, column, peak, VMPAin, j1, j2}
+use Rattle.cases.specs.Inputs.{these, minus, linesOf, enough, column, peak, VMPAin, j1, j2}
 
 -- every statement of a list
 abbrev pub All : List (Type 0) → Type 0
@@ -31,10 +33,14 @@ holding credits = record { users = 2; agents = 2; month = pos 0; credits = credi
 abbrev none : State
 none = holding (these (0 ∷ 0 ∷ []))
 
--- a) the file above
+-- a) the file above, and the cells printed for it
+abbrev pub printed : List ℤ
+printed = these (127 ∷ 508 ∷ 247 ∷ 988 ∷ 20 ∷ 80 ∷ [])
+
 pub record A : Type 0 where
   -- read whole, and closed on a new ledger
-  pub read-whole : reading (slices 2 2 2) (bytes text) 0 ≡ read file 184
+  pub read-whole : reading (slices 2 2 2) (bytes input) 0 ≡ read values 184
+  pub lines : linesOf values ≡ july
   pub closed : judged (opened 2 2) (record { lines = july; lengths = enough 2 2 }) ≡ accepted
   -- charges
   pub EUST : EUSTs july ≡ these (400 ∷ 1600 ∷ [])
@@ -48,8 +54,9 @@ pub record A : Type 0 where
   pub balance : SMSE none july ≡ minus 1106
   pub VMANT : VMANTs none july ≡ minus 369 ∷ minus 737 ∷ []
   pub VC : VCs none july ≡ these (635 ∷ 1235 ∷ 100 ∷ [])
-  -- the printed cells, agent 1, agent 2, ons, are a table of these credits and debits
-  pub cells : Table (VCs none july) (VDs none july) (these (127 ∷ 508 ∷ 247 ∷ 988 ∷ 20 ∷ 80 ∷ []))
+  -- the printed cells, agent 1, agent 2, ons, are a table of these credits and debits, and there is no other: every exact value is whole
+  pub cells : Table (VCs none july) (VDs none july) printed
+  pub only : (cells : List ℤ) → Table (VCs none july) (VDs none july) cells → cells ≡ printed
 
 -- b) −1106 over 1000, 2000: −369, −737
 abbrev pub B : Type 0

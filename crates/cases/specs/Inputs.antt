@@ -1,6 +1,5 @@
 -- What paper 01's examples are worked out on ("The month file", "Checked by hand").
 use Prim.Native.Nat.{ℕ}
-use Prim.Native.String.{String, _++_}
 use mathlib.Core.List.{List, [], _∷_, map}
 use lib.IntN.{ℤ, pos, negℤ}
 use Rattle.format.specs.Grammar.{File}
@@ -26,27 +25,6 @@ linesOf f = monthLines (record { month = f .month; ons = f .ons }) (f .agents) (
 -- slices just long enough for so many users and agents
 abbrev pub enough : ℕ → ℕ → Lengths
 enough users agents = record { held = users; cells = cellsNeeded users agents; work = workNeeded users agents }
-
--- a) "the file above": its text, and its values
-abbrev pub text : String
-text =
-    "month,ons\n202407,100\n"
-    ++ "agent,pb,pv,afs,rfs,pa,ret\n1,1000,0,0,0,0,4\n2,2000,30,0,0,25,0\n"
-    ++ "user,kind,ret\n1,2,0\n2,3,0\n"
-    ++ "at,tp,tf,dp,df,mp,mf,vp,vf\n1,1000,500,0,0,3,2,3,2\n2,2000,0,50,0,16,0,16,0\n"
-
-abbrev pub file : File
-file =
-    record {
-      month = pos 202407;
-      ons = pos 100;
-      agents = these (1 ∷ 1000 ∷ 0 ∷ 0 ∷ 0 ∷ 0 ∷ 4 ∷ []) ∷ these (2 ∷ 2000 ∷ 30 ∷ 0 ∷ 0 ∷ 25 ∷ 0 ∷ []) ∷ [];
-      users = these (1 ∷ 2 ∷ 0 ∷ []) ∷ these (2 ∷ 3 ∷ 0 ∷ []) ∷ [];
-      points = these (1 ∷ 1000 ∷ 500 ∷ 0 ∷ 0 ∷ 3 ∷ 2 ∷ 3 ∷ 2 ∷ []) ∷ these (2 ∷ 2000 ∷ 0 ∷ 50 ∷ 0 ∷ 16 ∷ 0 ∷ 16 ∷ 0 ∷ []) ∷ [];
-    }
-
-abbrev pub july : Lines
-july = linesOf file
 
 -- d) the column of the user j in a table of 3 payees and 2 users
 abbrev pub column : ℕ → List ℤ → List ℤ

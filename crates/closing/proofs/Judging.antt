@@ -1,13 +1,13 @@
 -- What a call that has begun a closing knows, group after group of the refusals, and how the groups make up `refusal`.
 use Prim.Native.Nat.{ℕ, _≤_}
-use mathlib.Core.Path.{_≡_, refl, sym, ap, _∙_}
+use mathlib.Core.Path.{_≡_, refl, sym, ap, ap₂, _∙_}
 use mathlib.Core.Bool.{false}
 use mathlib.Core.List.{List, map}
 use lib.IntN.{ℤ}
 use lib.ListN.{length, take, length-map}
 use lib.Seq.{length-take-le, take-all}
 use Rattle.rules.specs.declared.Answer.{Answer}
-use Rattle.rules.specs.declared.Answer.the-variants.{Accepted, Refused}
+use Rattle.rules.specs.declared.Answer.the-variants.{Accepted}
 use Rattle.rules.specs.declared.Ledger.{Ledger}
 use Rattle.rules.specs.declared.MonthLine.{MonthLine}
 use Rattle.rules.specs.declared.Point.{Point}
@@ -23,7 +23,7 @@ use Rattle.charges.specs.declared.scan.Sums.{Sums}
 use Rattle.charges.specs.Scan.{scanned}
 use Rattle.charges.proofs.Scanned.{scan-law}
 use Rattle.closing.specs.declared.judge.Judged.{Judged}
-use Rattle.closing.specs.Judged.{Begun, Weighable, JudgesBy, Judges}
+use Rattle.closing.specs.Judged.{Begun, Weighable, refusedWith, JudgesBy, Judges}
 
 module _ {g : Ledger} {held : List ℤ} {l : Lines} {s : Sums} {first : Answer} {short : Verdict} (b : Begun g held l s first short) where
   abbrev st : State
@@ -58,8 +58,17 @@ module _ {g : Ledger} {held : List ℤ} {l : Lines} {s : Sums} {first : Answer} 
       then v) (then-assoc (stateTests st (l .line)) (lineTests l) (sumTests st l)))
 
 -- a refusal has no amounts
-pub refuses : {n : ℕ} {st : State} {l : Lines} {r : Judged} (v : Verdict) {k p : ℕ} → r .verdict ≡ Refused k p → refused k p ≡ v → JudgesBy v n st l r
-refuses v e told = record { verdict = ap verdictOf e ∙ told; bills = λ ok. absurd (refused-not-accepted (told ∙ ok)) }
+pub refuses : {n : ℕ} {st : State} {l : Lines} {r : Judged} (v : Verdict) {k p : ℕ} → r ≡ refusedWith k p → refused k p ≡ v → JudgesBy v n st l r
+refuses v {k} {p} e told =
+    record {
+      verdict = ap (λ (j : Judged). verdictOf (j .verdict)) e ∙ told;
+      bills = λ ok. absurd (refused-not-accepted (told ∙ ok));
+      none = λ number place f.
+          let g : refused k p ≡ refused number place = told ∙ f in
+          let h : k ≡ number = cc in
+          let i : p ≡ place = cc in
+          e ∙ ap₂ refusedWith h i;
+    }
 
 module _ {g : Ledger} {held : List ℤ} {line : MonthLine} (agents users : List (List ℤ)) {points : List Point} {s : Sums} {first : Answer} {short : Verdict} (b
     : Begun g held (monthLines line agents users points) s first short) where
@@ -100,4 +109,4 @@ module _ {g : Ledger} {held : List ℤ} {line : MonthLine} (agents users : List 
     pub judges : {r : Judged} → JudgesBy (sumTests (stateOf g held) l) (length users) (stateOf g held) l r → Judges g held short l r
     judges j =
         let e = sums-last b told in
-        rw (length-map users userOf) (record { verdict = j .verdict ∙ e; bills = λ ok. j .bills (e ∙ ok) })
+        rw (length-map users userOf) (record { verdict = j .verdict ∙ e; bills = λ ok. j .bills (e ∙ ok); none = λ k p f. j .none k p (e ∙ f) })

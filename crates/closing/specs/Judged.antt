@@ -2,18 +2,20 @@
 use Prim.Native.Nat.{ℕ, _≤_}
 use mathlib.Core.Path.{_≡_}
 use mathlib.Core.List.{List, map}
-use lib.IntN.{ℤ}
-use lib.ListN.{length, take}
+use lib.IntN.{ℤ, pos}
+use lib.ListN.{length, replicate, take}
 use Rattle.rules.specs.declared.Answer.{Answer}
+use Rattle.rules.specs.declared.Answer.the-variants.{Refused}
 use Rattle.rules.specs.declared.Ledger.{Ledger}
 use Rattle.rules.specs.declared.MonthLine.{MonthLine}
 use Rattle.rules.specs.declared.Point.{Point}
-use Rattle.rules.specs.Verdict.{Verdict, accepted}
+use Rattle.rules.specs.Verdict.{Verdict, accepted, refused}
 use Rattle.rules.specs.Lines.{Lines, userOf, monthLines}
 use Rattle.rules.specs.State.{State}
 use Rattle.rules.specs.Refusals.{countTests, sumTests, refusal}
 use Rattle.rules.specs.Tested.{Tested}
 use Rattle.rules.specs.Calls.{stateOf, verdictOf}
+use Rattle.charges.specs.declared.month.Bills.{Bills}
 use Rattle.charges.specs.declared.scan.Sums.{Sums}
 use Rattle.charges.specs.Scan.{scanned}
 use Rattle.charges.specs.Month.{Billed}
@@ -33,10 +35,17 @@ pub record Weighable (line : MonthLine) (held : List ℤ) (agents users : List (
   pub held-are : held ≡ st .credits
   pub sums : s ≡ scanned (map userOf users) points
 
--- ---- what is answered: the verdict; and the amounts of n users, where it is accepted
+-- ---- what is answered: the verdict; the amounts of n users where it is accepted, zeros where it is not
+abbrev pub noBills : Bills
+noBills = record { total = pos 0; debits = replicate 512 (pos 0); credits = replicate 512 (pos 0) }
+
+abbrev pub refusedWith : ℕ → ℕ → Judged
+refusedWith number place = record { verdict = Refused number place; bills = noBills }
+
 pub record JudgesBy (v : Verdict) (n : ℕ) (st : State) (l : Lines) (r : Judged) : Type 0 where
   pub verdict : verdictOf (r .verdict) ≡ v
   pub bills : v ≡ accepted → Billed n st l (r .bills)
+  pub none : (number place : ℕ) → v ≡ refused number place → r ≡ refusedWith number place
 
 abbrev pub Weighs : List ℤ → List (List ℤ) → List (List ℤ) → Sums → Judged → Type 0
 Weighs held agents users s r =

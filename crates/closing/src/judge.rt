@@ -5,13 +5,13 @@ ghost use mathlib.Core.List.{List, map};
 ghost use lib.ListN.{length};
 ghost use Rattle.rules.specs.declared.MonthLine.{MonthLine};
 ghost use Rattle.rules.specs.declared.Point.{Point};
-ghost use Rattle.rules.specs.declared.Answer.the-variants.{Accepted, Refused};
+ghost use Rattle.rules.specs.declared.Answer.the-variants.{Accepted};
 ghost use Rattle.rules.specs.Verdict.{Verdict, _then_, eachLine};
 ghost use Rattle.rules.specs.Lines.{userOf, monthLines};
 ghost use Rattle.rules.specs.State.{State};
 ghost use Rattle.rules.specs.Refusals.{pointTest, stateTests, lineTests};
 ghost use Rattle.rules.specs.Calls.{stateOf, verdictOf};
-ghost use Rattle.closing.specs.Judged.{Begun, Weighable, Weighs, Judges};
+ghost use Rattle.closing.specs.Judged.{Begun, Weighable, refusedWith, Weighs, Judges};
 use charges::month::Bills;
 use charges::scan::Sums;
 use rules::AgentLine;
@@ -20,15 +20,15 @@ use rules::Ledger;
 use rules::MonthLine;
 use rules::UserLine;
 
-// What is found of a closing: its verdict and, of an accepted month, every user's debit and new held credit.
+// What is found of a closing: its verdict, and every user's debit and new held credit, zeros of a refused month.
 pub struct Judged {
     pub verdict: Answer,
     pub bills: Bills,
 }
 
-// A refusal, with no amounts.
+// A refusal: its amounts are zeros.
 fn refused(number: u64, place: u64) -> Judged
-    ensures { λ r. ⌜ r .verdict ≡ Refused number place ⌝ }
+    ensures { λ r. ⌜ r ≡ refusedWith number place ⌝ }
 {
     Judged {
         verdict: Answer::Refused(number, place),

@@ -1,16 +1,16 @@
 -- Division rounded down, of a whole number by a natural above 0: what it is, that there is one such number, and its laws.
-use mathlib.Core.Path.{_≡_, ap}
+use mathlib.Core.Path.{_≡_, refl, ap}
 use mathlib.Core.Logic.{⊎-elim}
 use Prim.Native.Nat.{ℕ, _+_, _*_, _/_, _≤_, _<_}
 use native.Mathlib.Omega.{arith}
-use native.Mathlib.Nat.{mul-le-mul-right, mul-le-mul-left, div-add-mod', mod-lt}
+use native.Mathlib.Nat.{mul-le-mul-right, mul-le-mul-left, div-add-mod', div-zero, mod-lt}
 use lib.IntN.{ℤ, pos, negsuc, _+ℤ_, _*ℤ_}
 use lib.Signed.{_≤ℤ_, _<ℤ_}
 use Rattle.ints.specs.Bridge.{up, dn, abs, za, add#, mul#, one#, lt-in}
 use Rattle.ints.specs.Order.{le-or-lt, ≤-antisym, ≤-refl}
 
--- x / w rounded towards minus infinity (paper 01, "Units and arithmetic"). The divisors of the paper are above 0; for any other the
--- value is of no use, and 0. That this is the floor is `floor-is`, below.
+-- x / w rounded towards minus infinity (paper 01, "Units and arithmetic"): `floor-is`, below. The divisors of the paper are above 0; by
+-- any other the value is of no use: by 0 it is 0 or −1 by the sign of x, by a negative 0 (`floor-by-zero`, `floor-by-negative`).
 unfoldable pub floor : ℤ → ℤ → ℤ
 floor (pos a) (pos w) = pos (a / w)
 floor (negsuc a) (pos w) = negsuc (a / w)
@@ -40,6 +40,15 @@ pub floor-is : (x : ℤ) (w : ℕ) → 0 < w → IsFloor x w (floor x (pos w))
 unfolding floor
 floor-is (pos a) w h = floor-out {q = pos (a / w)} (omega (arith, div-add-mod' a w, mod-lt a h))
 floor-is (negsuc a) w h = floor-out {q = negsuc (a / w)} (omega (arith, div-add-mod' a w, mod-lt a h))
+
+pub floor-by-zero : (a : ℕ) → (floor (pos a) (pos 0) ≡ pos 0) × (floor (negsuc a) (pos 0) ≡ negsuc 0)
+unfolding floor
+floor-by-zero a = (ap pos (div-zero a), ap negsuc (div-zero a))
+
+pub floor-by-negative : (x : ℤ) (w : ℕ) → floor x (negsuc w) ≡ pos 0
+unfolding floor
+floor-by-negative (pos a) w = refl
+floor-by-negative (negsuc a) w = refl
 
 -- ---- a larger number has a floor at least as large; so there is one floor
 pub floor-mono : {x y : ℤ} {w : ℕ} {q r : ℤ} → IsFloor x w q → IsFloor y w r → x ≤ℤ y → q ≤ℤ r

@@ -25,7 +25,7 @@ pub outside-false : (low high x : ℤ) → outside low high x ≡ false → With
 unfolding outside
 outside-false low high x e = let f = or-false (ltZ x low) (ltZ high x) e in record { above = omega za; below = omega za }
 
-not-below : (a b : ℤ) → b ≤ℤ a → ltZ a b ≡ false
+pub not-below : (a b : ℤ) → b ≤ℤ a → ltZ a b ≡ false
 not-below a b h = go (ltZ a b) refl
   where
     go : (t : Bool) → ltZ a b ≡ t → t ≡ false

@@ -3,7 +3,8 @@
 -- An accepted month: `Tests` takes a list of tests apart; `Fits` is a line with every value in its range; `Passed` is all that an
 -- accepted month has passed; `Sizes`, `Entries` and `ByLine` are the lengths and the entries of its lists of amounts.
 -- A loop over its lines: `Turns` is one test of each line, turn by turn; `Answers` reads an answer off its verdict.
--- Its table: `Near` is the one cent; `Slice` reads a table in the slice that it stands in.
+-- Its table: `Near` is the one cent; `Slice` reads a table in the slice that it stands in; `OneTable`: of whole values there is one.
+-- A rounding: `HalfUp` is the one number that lies so near.
 -- Demand 1: `Limits` is a limit and a test that agree, `LimitsTests` each limit and its test, `LimitsMonth` the limits in their order and
 -- the refusals of a call, and `Demand1` states the theorem.
 -- Demand 3: `Lending` has the held credits in the slice that lends them; `Steps` holds one closing to one step of the tally, `Follow` a
@@ -23,6 +24,8 @@ pub mod Turns
 pub mod Answers
 pub mod Near
 pub mod Slice
+pub mod OneTable
+pub mod HalfUp
 pub mod Lending
 pub mod Steps
 pub mod Follow

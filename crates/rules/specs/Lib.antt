@@ -16,3 +16,4 @@ pub mod Calls
 pub mod Tally
 pub mod Demand
 pub mod Demand1
+pub mod July

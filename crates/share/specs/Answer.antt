@@ -20,30 +20,27 @@ badTotal W = outside (pos 1) (pos 100000000000000000) W
 abbrev pub badSums : ℤ → ℤ → ℤ → Bool
 badSums before through W = ltZ before (pos 0) || (ltZ through before || ltZ W through)
 
--- the part, or the first test that holds
-unfoldable pub shared : ℤ → ℤ → ℤ → ℤ → Shared
-shared P before through W =
-    cond (badAmount P) BadAmount
-    (cond (badTotal W) BadTotal
-    (cond (badSums before through W) BadSums (Part (part P before through W))))
+-- what the share gives: it answers the part, or it refuses with a number and a place
+pub data ShareAnswer : Type 0 where
+  answers : ℤ → ShareAnswer
+  refuses : ℕ → ℕ → ShareAnswer
 
--- the paper's number of each answer: 5 for a refusal, 0 for none
-abbrev pub number : Shared → ℕ
-number (Part x) = 0
-number BadAmount = 5
-number BadTotal = 5
-number BadSums = 5
+-- the part; otherwise 5, the place 1 for P, 2 for W, 3 for the sums, the first that holds
+unfoldable pub sharing : ℤ → ℤ → ℤ → ℤ → ShareAnswer
+sharing P before through W =
+    cond (badAmount P) (refuses 5 1)
+    (cond (badTotal W) (refuses 5 2)
+    (cond (badSums before through W) (refuses 5 3) (answers (part P before through W))))
 
--- the paper's place of each answer
-abbrev pub place : Shared → ℕ
-place (Part x) = 0
-place BadAmount = 1
-place BadTotal = 2
-place BadSums = 3
+-- what each case of the code's answer stands for: the part, or number and place;
+-- no two stand for the same (`one-answer` in proofs/Limits)
+abbrev pub answerOf : Shared → ShareAnswer
+answerOf (Part x) = answers x
+answerOf BadAmount = refuses 5 1
+answerOf BadTotal = refuses 5 2
+answerOf BadSums = refuses 5 3
 
 -- what C sees: the part, or −10^18 less the place
-abbrev pub seenByC : Shared → ℤ
-seenByC (Part x) = x
-seenByC BadAmount = negsuc 999999999999999999 -ℤ pos (place BadAmount)
-seenByC BadTotal = negsuc 999999999999999999 -ℤ pos (place BadTotal)
-seenByC BadSums = negsuc 999999999999999999 -ℤ pos (place BadSums)
+abbrev pub seenByC : ShareAnswer → ℤ
+seenByC (answers x) = x
+seenByC (refuses n k) = negsuc 999999999999999999 -ℤ pos k

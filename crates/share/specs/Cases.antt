@@ -1,5 +1,5 @@
 -- Paper 01's cases b and c ("Checked by hand"), and one call for each refusal of the exported share, worked out from the definitions.
-use Prim.Native.Nat.{ℕ, _+_, _^_}
+use Prim.Native.Nat.{_+_, _^_}
 use mathlib.Core.Path.{_≡_, refl}
 use mathlib.Core.List.{List, [], _∷_, _++_, map}
 use lib.IntN.{ℤ, pos, negℤ}
@@ -7,7 +7,7 @@ use Rattle.ints.specs.Floor.{floor}
 use Rattle.ints.specs.Range.{outside}
 use Rattle.ints.specs.Sums.{sumℤ}
 use Rattle.share.specs.Running.{part, partsFrom, runningShare}
-use Rattle.share.specs.Answer.{shared, number, place, seenByC}
+use Rattle.share.specs.Answer.{ShareAnswer, answers, refuses, sharing, seenByC}
 
 -- b) −1106 over 1000, 2000 and c) 30 over 300, 1700
 pub by-hand : runningShare (negℤ (pos 1106)) (pos 1000 ∷ pos 2000 ∷ []) ∷ runningShare (pos 30) (pos 300 ∷ pos 1700 ∷ [])
@@ -15,35 +15,35 @@ pub by-hand : runningShare (negℤ (pos 1106)) (pos 1000 ∷ pos 2000 ∷ []) �
 unfolding floor part partsFrom runningShare sumℤ
 by-hand = refl
 
--- what a call of the exported share tells: number, place, and what C sees
+-- what a call of the exported share gives, and what C sees
 abbrev pub Told : Type 0
-Told = ℕ × ℕ × ℤ
+Told = ShareAnswer × ℤ
 
 abbrev pub told : ℤ → ℤ → ℤ → ℤ → Told
-told P before through W = let s = shared P before through W in (number s, place s, seenByC s)
+told P before through W = (sharing P before through W, seenByC (sharing P before through W))
 
 -- the limits of P and W themselves are taken
 unfoldable pub taken : List (Told × Told)
 taken =
-    (told (pos (10 ^ 17)) (pos 0) (pos (10 ^ 17)) (pos (10 ^ 17)), (0, 0, pos (10 ^ 17)))
-    ∷ (told (negℤ (pos (10 ^ 17))) (pos 0) (pos 1) (pos 1), (0, 0, negℤ (pos (10 ^ 17))))
-    ∷ (told (pos 7) (pos 1) (pos 1) (pos 1), (0, 0, pos 0))
+    (told (pos (10 ^ 17)) (pos 0) (pos (10 ^ 17)) (pos (10 ^ 17)), (answers (pos (10 ^ 17)), pos (10 ^ 17)))
+    ∷ (told (negℤ (pos (10 ^ 17))) (pos 0) (pos 1) (pos 1), (answers (negℤ (pos (10 ^ 17))), negℤ (pos (10 ^ 17))))
+    ∷ (told (pos 7) (pos 1) (pos 1) (pos 1), (answers (pos 0), pos 0))
     ∷ []
 
 -- P one past its limits; W one past its limits; the three ways that the sums go wrong; and of two that are wrong the first
 unfoldable pub refused : List (Told × Told)
 refused =
-    (told (pos (10 ^ 17 + 1)) (pos 0) (pos 1) (pos 1), (5, 1, negℤ (pos (10 ^ 18 + 1))))
-    ∷ (told (negℤ (pos (10 ^ 17 + 1))) (pos 0) (pos 1) (pos 1), (5, 1, negℤ (pos (10 ^ 18 + 1))))
-    ∷ (told (pos 1) (pos 0) (pos 0) (pos 0), (5, 2, negℤ (pos (10 ^ 18 + 2))))
-    ∷ (told (pos 1) (pos 0) (pos 1) (pos (10 ^ 17 + 1)), (5, 2, negℤ (pos (10 ^ 18 + 2))))
-    ∷ (told (pos 1) (negℤ (pos 1)) (pos 1) (pos 2), (5, 3, negℤ (pos (10 ^ 18 + 3))))
-    ∷ (told (pos 1) (pos 2) (pos 1) (pos 2), (5, 3, negℤ (pos (10 ^ 18 + 3))))
-    ∷ (told (pos 1) (pos 1) (pos 3) (pos 2), (5, 3, negℤ (pos (10 ^ 18 + 3))))
-    ∷ (told (pos (10 ^ 17 + 1)) (pos 0) (pos 0) (pos 0), (5, 1, negℤ (pos (10 ^ 18 + 1))))
-    ∷ (told (pos 1) (negℤ (pos 1)) (pos 1) (pos 0), (5, 2, negℤ (pos (10 ^ 18 + 2))))
+    (told (pos (10 ^ 17 + 1)) (pos 0) (pos 1) (pos 1), (refuses 5 1, negℤ (pos (10 ^ 18 + 1))))
+    ∷ (told (negℤ (pos (10 ^ 17 + 1))) (pos 0) (pos 1) (pos 1), (refuses 5 1, negℤ (pos (10 ^ 18 + 1))))
+    ∷ (told (pos 1) (pos 0) (pos 0) (pos 0), (refuses 5 2, negℤ (pos (10 ^ 18 + 2))))
+    ∷ (told (pos 1) (pos 0) (pos 1) (pos (10 ^ 17 + 1)), (refuses 5 2, negℤ (pos (10 ^ 18 + 2))))
+    ∷ (told (pos 1) (negℤ (pos 1)) (pos 1) (pos 2), (refuses 5 3, negℤ (pos (10 ^ 18 + 3))))
+    ∷ (told (pos 1) (pos 2) (pos 1) (pos 2), (refuses 5 3, negℤ (pos (10 ^ 18 + 3))))
+    ∷ (told (pos 1) (pos 1) (pos 3) (pos 2), (refuses 5 3, negℤ (pos (10 ^ 18 + 3))))
+    ∷ (told (pos (10 ^ 17 + 1)) (pos 0) (pos 0) (pos 0), (refuses 5 1, negℤ (pos (10 ^ 18 + 1))))
+    ∷ (told (pos 1) (negℤ (pos 1)) (pos 1) (pos 0), (refuses 5 2, negℤ (pos (10 ^ 18 + 2))))
     ∷ []
 
 pub calls : map (λ r. r .0) (taken ++ refused) ≡ map (λ r. r .1) (taken ++ refused)
-unfolding floor part outside shared taken refused
+unfolding floor part outside sharing taken refused
 calls = refl

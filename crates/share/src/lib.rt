@@ -8,7 +8,7 @@ ghost use Rattle.ints.specs.Bridge.{abs};
 ghost use Rattle.ints.specs.Floor.{floor};
 ghost use Rattle.ints.specs.Rest.{Split};
 ghost use Rattle.wide.specs.Exact.{divided};
-ghost use Rattle.share.specs.Answer.{shared, badSums, seenByC};
+ghost use Rattle.share.specs.Answer.{badSums, sharing, answerOf, seenByC};
 ghost use Rattle.share.specs.Running.{runningShare};
 ghost use Rattle.share.specs.Filling.{Fillable};
 
@@ -124,7 +124,7 @@ fn bad_sums(before: i64, through: i64, w: i64) -> bool
 
 // The part of p between the weight sums `before` and `through` of w.
 pub fn part(p: i64, before: i64, through: i64, w: i64) -> Shared
-    ensures { λ r. ⌜ r ≡ shared p before through w ⌝ }
+    ensures { λ r. ⌜ answerOf r ≡ sharing p before through w ⌝ }
 {
     if ints::outside(-LIMIT, LIMIT, p) {
         return Shared::BadAmount;
@@ -161,7 +161,7 @@ pub fn fill(p: i64, total: i64, weights: &[i64], parts: &mut [i64])
 
 // What C sees of an answer.
 pub fn seen_by_c(s: Shared) -> i64
-    ensures { λ r. ⌜ r ≡ seenByC s ⌝ }
+    ensures { λ r. ⌜ r ≡ seenByC (answerOf s) ⌝ }
 {
     match s {
         Shared::Part(x) => x,

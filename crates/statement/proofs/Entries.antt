@@ -14,7 +14,7 @@ use Rattle.statement.specs.Statement.{at, userRowsOf, agentRowsOf}
 use Rattle.statement.specs.Columns.{UserColumns, userRowsBy}
 
 -- counted from 0
-each-at : {A B : Type 0} (f : ℕ → A → B) (xs : List A) (i : ℕ) (a : A) (b : B) → i < length xs → getD (eachFrom 0 f xs) i b ≡ f i (getD xs i a)
+pub each-at : {A B : Type 0} (f : ℕ → A → B) (xs : List A) (i : ℕ) (a : A) (b : B) → i < length xs → getD (eachFrom 0 f xs) i b ≡ f i (getD xs i a)
 each-at f xs i a b h = getD-eachFrom 0 f xs i a b h ∙ ap (λ (k : ℕ). f k (getD xs i a)) (omega arith)
 
 -- ---- of the users

@@ -40,9 +40,9 @@ long-enough : (s : State) (n : RowRooms) (points : ℕ) → shortRooms s n point
 unfolding shortRooms
 long-enough s n points e =
     let a = when-then _ 2 1 _ e in
-    let b = when-then _ 2 2 _ (a .1) in
-    let c = when-then _ 2 3 _ (b .1) in
-    record { held = ltb-false _ _ (a .0); points = ltb-false _ _ (b .0); users = ltb-false _ _ (c .0); payees = ltb-false _ _ (when-accepted _ 2 4 (c .1)) }
+    let b = when-then _ 2 7 _ (a .1) in
+    let c = when-then _ 2 8 _ (b .1) in
+    record { held = ltb-false _ _ (a .0); points = ltb-false _ _ (b .0); users = ltb-false _ _ (c .0); payees = ltb-false _ _ (when-accepted _ 2 9 (c .1)) }
 
 -- with 1 and 2 tested and the points scanned, the statement may be judged
 pub begun :

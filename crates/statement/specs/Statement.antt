@@ -68,14 +68,14 @@ pub record RowRooms : Type 0 where
   pub users : ℕ
   pub payees : ℕ
 
--- 2: a slice too short; place 1 held, 2 the points' rows, 3 the users', 4 the payees', the lowest that is. The last count is that of
--- point lines
+-- 2: a slice too short; place 1 held, 7 the points' rows, 8 the users', 9 the payees', the lowest that is: the places between are those
+-- of slices that closing is lent. The last count is that of point lines
 unfoldable pub shortRooms : State → RowRooms → ℕ → Verdict
 shortRooms s n points =
     when (ltb (n .held) (s .users)) 2 1
-    then when (ltb (n .points) points) 2 2
-    then when (ltb (n .users) (s .users)) 2 3
-    then when (ltb (n .payees) (s .agents + 1)) 2 4
+    then when (ltb (n .points) points) 2 7
+    then when (ltb (n .users) (s .users)) 2 8
+    then when (ltb (n .payees) (s .agents + 1)) 2 9
 
 -- on this ledger and these slices, with so many points
 abbrev pub shortOf : Ledger → List ℤ → (points users payees : List (List ℤ)) → ℕ → Verdict

@@ -59,13 +59,13 @@ fn short_rooms(
         return Answer::Refused(2, 1);
     }
     if point_rows < points {
-        return Answer::Refused(2, 2);
+        return Answer::Refused(2, 7);
     }
     if user_rows < users {
-        return Answer::Refused(2, 3);
+        return Answer::Refused(2, 8);
     }
     if payee_rows <= agents {
-        return Answer::Refused(2, 4);
+        return Answer::Refused(2, 9);
     }
     Answer::Accepted
 }

@@ -2,64 +2,52 @@
 use Prim.Native.Nat.{ℕ, _*_, _≤_, _<_}
 use native.Mathlib.Nat.{le-trans}
 use mathlib.Core.Path.{_≡_, sym, _∙_}
-use mathlib.Core.Bool.{true, false, _||_}
+use mathlib.Core.Bool.{true, false}
 use borrow.Author.Needs.{needs}
 use lib.Dec.{T}
 use lib.IntN.{ℤ, pos, natAbs, _-ℤ_, _*ℤ_}
-use lib.Signed.{ltZ, nonNeg, _≤ℤ_}
+use lib.Signed.{nonNeg, _≤ℤ_}
 use mir.Syntax.{w64}
 use mir.Val.{SFits, Fits}
 use mir.Facts.{toZ-ofZ}
 use Rattle.ints.specs.Bridge.{abs, abs-is, za, sub#, above#}
 use Rattle.ints.specs.Order.{abs-le, ≤-trans}
-use Rattle.ints.specs.Range.{outside-false, or-false}
+use Rattle.ints.specs.Range.{outside-false}
 use Rattle.ints.specs.Floor.{floor, floor-is, share-small}
 use Rattle.share.specs.Running.{part}
-use Rattle.share.specs.Answer.{badAmount, badTotal, badSums, shared}
-use Rattle.share.specs.declared.Shared.the-variants.{Part, BadAmount, BadTotal, BadSums}
+use Rattle.share.specs.Answer.{badAmount, badTotal, badSums, answers, refuses, sharing}
+use Rattle.share.specs.Limits.{TotalWithin, SumsWithin}
+use Rattle.share.proofs.Limits.{sums-within}
 use Rattle.share.proofs.part.Statement.{statement}
 use Rattle.share.proofs.part.Tie as tie
 
 module _ (P b t W : ℤ) where
-  amount-refused : badAmount P ≡ true → shared P b t W ≡ BadAmount
-  unfolding shared
+  amount-refused : badAmount P ≡ true → sharing P b t W ≡ refuses 5 1
+  unfolding sharing
   amount-refused e = rw e
 
-  total-refused : badAmount P ≡ false → badTotal W ≡ true → shared P b t W ≡ BadTotal
-  unfolding shared
+  total-refused : badAmount P ≡ false → badTotal W ≡ true → sharing P b t W ≡ refuses 5 2
+  unfolding sharing
   total-refused e f = rw (e, f)
 
-  sums-refused : badAmount P ≡ false → badTotal W ≡ false → badSums b t W ≡ true → shared P b t W ≡ BadSums
-  unfolding shared
+  sums-refused : badAmount P ≡ false → badTotal W ≡ false → badSums b t W ≡ true → sharing P b t W ≡ refuses 5 3
+  unfolding sharing
   sums-refused e f g = rw (e, f, g)
 
-  not-refused : badAmount P ≡ false → badTotal W ≡ false → badSums b t W ≡ false → shared P b t W ≡ Part (part P b t W)
-  unfolding shared
+  not-refused : badAmount P ≡ false → badTotal W ≡ false → badSums b t W ≡ false → sharing P b t W ≡ answers (part P b t W)
+  unfolding sharing
   not-refused e f g = rw (e, f, g)
 
   -- what the tests leave
   record Limits : Type 0 where
     amount : abs P ≤ 100000000000000000
-    low : pos 0 ≤ℤ b
-    between : b ≤ℤ t
-    through : t ≤ℤ W
-    total : pos 1 ≤ℤ W
-    total-le : W ≤ℤ pos 100000000000000000
+    total : TotalWithin W
+    sums : SumsWithin b t W
 
   limits : badAmount P ≡ false → badTotal W ≡ false → badSums b t W ≡ false → Limits
   limits e f g =
       let p = outside-false _ _ P e in
-      let w = outside-false _ _ W f in
-      let s = or-false (ltZ b (pos 0)) (ltZ t b || ltZ W t) g in
-      let r = or-false (ltZ t b) (ltZ W t) (s .1) in
-      record {
-        amount = abs-le P 100000000000000000 (p .below) (p .above);
-        low = omega za;
-        between = omega za;
-        through = omega za;
-        total = w .above;
-        total-le = w .below;
-      }
+      record { amount = abs-le P 100000000000000000 (p .below) (p .above); total = outside-false _ _ W f; sums = sums-within g }
 
 -- a number that is not negative, as the cast to unsigned has it
 cast : (x : ℤ) → pos 0 ≤ℤ x → SFits w64 x → T (nonNeg x) × Fits w64 (natAbs x)
@@ -110,13 +98,13 @@ cast-floor-of : tie.Need-cast-floor-of
 cast-floor-of c =
     let f = c .before .before .before .before .before .before .fits in
     let l = fine c in
-    simp (toZ-ofZ, f .through) (cast _ (≤-trans (l .low) (l .between)) (f .through))
+    simp (toZ-ofZ, f .through) (cast _ (≤-trans (l .sums .low) (l .sums .between)) (f .through))
 
 cast-floor-of-2 : tie.Need-cast-floor-of-2
 cast-floor-of-2 c =
     let f = c .before .before .before .before .before .before .fits in
     let l = fine c in
-    simp (toZ-ofZ, f .w) (cast _ (above-zero (l .total)) (f .w))
+    simp (toZ-ofZ, f .w) (cast _ (above-zero (l .total .above)) (f .w))
 
 -- what `floor_of` asks, of a weight sum t
 asked : (P : ℤ) {t W : ℤ} → abs P ≤ 100000000000000000 → pos 0 ≤ℤ t → t ≤ℤ W → pos 1 ≤ℤ W → (abs P ≤ 100000000000000000) × (natAbs t ≤ natAbs W)
@@ -128,26 +116,26 @@ floor-of-requires c κs =
     let s = c .before .before .before .before .before .before in
     let f = s .fits in
     let l = fine c in
-    simp (toZ-ofZ, f .p, f .through, f .w) (asked (s .args .p) (l .amount) (≤-trans (l .low) (l .between)) (l .through) (l .total))
+    simp (toZ-ofZ, f .p, f .through, f .w) (asked (s .args .p) (l .amount) (≤-trans (l .sums .low) (l .sums .between)) (l .sums .high) (l .total .above))
 
 cast-floor-of-3 : tie.Need-cast-floor-of-3
 cast-floor-of-3 c =
     let f = c .before .before .before .before .before .before .before .fits in
     let l = fine (c .before) in
-    simp (toZ-ofZ, f .before) (cast _ (l .low) (f .before))
+    simp (toZ-ofZ, f .before) (cast _ (l .sums .low) (f .before))
 
 cast-floor-of-4 : tie.Need-cast-floor-of-4
 cast-floor-of-4 c =
     let f = c .before .before .before .before .before .before .before .fits in
     let l = fine (c .before) in
-    simp (toZ-ofZ, f .w) (cast _ (above-zero (l .total)) (f .w))
+    simp (toZ-ofZ, f .w) (cast _ (above-zero (l .total .above)) (f .w))
 
 floor-of-requires-2 : tie.Need-floor-of-requires-2
 floor-of-requires-2 c κs =
     let s = c .before .before .before .before .before .before .before in
     let f = s .fits in
     let l = fine (c .before) in
-    simp (toZ-ofZ, f .p, f .before, f .w) (asked (s .args .p) (l .amount) (l .low) (≤-trans (l .between) (l .through)) (l .total))
+    simp (toZ-ofZ, f .p, f .before, f .w) (asked (s .args .p) (l .amount) (l .sums .low) (≤-trans (l .sums .between) (l .sums .high)) (l .total .above))
 
 -- what the two calls answered
 upper-is : (c : tie.After-floor-of) → let s = c .before .before .before .before .before .before .before in
@@ -155,14 +143,15 @@ upper-is : (c : tie.After-floor-of) → let s = c .before .before .before .befor
 upper-is c =
     let s = c .before .before .before .before .before .before .before in
     let l = fine (c .before) in
-    simp (toZ-ofZ, s .fits .p, s .fits .through, s .fits .w, size _ (≤-trans (l .low) (l .between)), size _ (above-zero (l .total))) at (c .floor-of .ensures)
+    let t = ≤-trans (l .sums .low) (l .sums .between) in
+    simp (toZ-ofZ, s .fits .p, s .fits .through, s .fits .w, size _ t, size _ (above-zero (l .total .above))) at (c .floor-of .ensures)
 
 lower-is : (c : tie.After-floor-of2) → let s = c .before .before .before .before .before .before .before .before in
     c .floor-of2 .result ≡ floor (s .args .p *ℤ s .args .before) (s .args .w)
 lower-is c =
     let s = c .before .before .before .before .before .before .before .before in
     let l = fine (c .before .before) in
-    simp (toZ-ofZ, s .fits .p, s .fits .before, s .fits .w, size _ (l .low), size _ (above-zero (l .total))) at (c .floor-of2 .ensures)
+    simp (toZ-ofZ, s .fits .p, s .fits .before, s .fits .w, size _ (l .sums .low), size _ (above-zero (l .total .above))) at (c .floor-of2 .ensures)
 
 -- a floor share is a word, and so is the difference of two
 module _ (P : ℤ) {t W : ℤ} (h : abs P ≤ 100000000000000000) (k : pos 0 ≤ℤ t) (j : t ≤ℤ W) (z : pos 1 ≤ℤ W) where
@@ -185,16 +174,16 @@ module _ (c : tie.After-floor-of2) where
   l = fine (c .before .before)
 
   upper-small : abs (floor (s .args .p *ℤ s .args .through) (s .args .w)) ≤ 100000000000000000
-  upper-small = floor-small (s .args .p) (l .amount) (≤-trans (l .low) (l .between)) (l .through) (l .total)
+  upper-small = floor-small (s .args .p) (l .amount) (≤-trans (l .sums .low) (l .sums .between)) (l .sums .high) (l .total .above)
 
   lower-small : abs (floor (s .args .p *ℤ s .args .before) (s .args .w)) ≤ 100000000000000000
-  lower-small = floor-small (s .args .p) (l .amount) (l .low) (≤-trans (l .between) (l .through)) (l .total)
+  lower-small = floor-small (s .args .p) (l .amount) (l .sums .low) (≤-trans (l .sums .between) (l .sums .high)) (l .total .above)
 
   upper-fits : SFits w64 (floor (s .args .p *ℤ s .args .through) (s .args .w))
-  upper-fits = floor-fits (s .args .p) (l .amount) (≤-trans (l .low) (l .between)) (l .through) (l .total)
+  upper-fits = floor-fits (s .args .p) (l .amount) (≤-trans (l .sums .low) (l .sums .between)) (l .sums .high) (l .total .above)
 
   lower-fits : SFits w64 (floor (s .args .p *ℤ s .args .before) (s .args .w))
-  lower-fits = floor-fits (s .args .p) (l .amount) (l .low) (≤-trans (l .between) (l .through)) (l .total)
+  lower-fits = floor-fits (s .args .p) (l .amount) (l .sums .low) (≤-trans (l .sums .between) (l .sums .high)) (l .total .above)
 
   difference : SFits w64 (floor (s .args .p *ℤ s .args .through) (s .args .w) -ℤ floor (s .args .p *ℤ s .args .before) (s .args .w))
   difference = sub-fits (floor (s .args .p *ℤ s .args .through) (s .args .w)) (floor (s .args .p *ℤ s .args .before) (s .args .w)) upper-small lower-small

@@ -4,7 +4,7 @@ use mir.Syntax.{w64}
 use mir.Val.{SFits}
 use mir.Facts.{toZ-ofZ}
 use borrow.Author.Needs.{needs}
-use Rattle.share.specs.Answer.{seenByC}
+use Rattle.share.specs.Answer.{answerOf, seenByC}
 use Rattle.share.proofs.seen_by_c.Statement.{statement}
 use Rattle.share.proofs.seen_by_c.Tie as tie
 
@@ -14,13 +14,13 @@ returns c =
     rw (c .before .s .given .1) (toZ-ofZ f)
 
 returns-2 : tie.Need-returns-2
-returns-2 c = sym (ap seenByC (c .enum-told .given .1))
+returns-2 c = sym (ap (λ s. seenByC (answerOf s)) (c .enum-told .given .1))
 
 returns-3 : tie.Need-returns-3
-returns-3 c = sym (ap seenByC (c .enum-told2 .given .1))
+returns-3 c = sym (ap (λ s. seenByC (answerOf s)) (c .enum-told2 .given .1))
 
 returns-4 : tie.Need-returns-4
-returns-4 c = sym (ap seenByC (c .enum-told3 .given .1))
+returns-4 c = sym (ap (λ s. seenByC (answerOf s)) (c .enum-told3 .given .1))
 
 pub seen-by-c-spec : {M : Type 1} → statement M
 seen-by-c-spec =

@@ -16,6 +16,7 @@ use Rattle.rules.specs.State.{State}
 use Rattle.rules.specs.Charges.{pvs}
 use Rattle.rules.specs.Refusals.{sumTests}
 use Rattle.rules.specs.Calls.{verdictOf}
+use Rattle.rules.proofs.Tests.{refused-not-accepted}
 use Rattle.charges.specs.Month.{Month, firstUses, firstOverruns, Billed}
 use Rattle.closing.specs.Judged.{Weighable}
 use Rattle.closing.proofs.Judging.{refuses}
@@ -107,7 +108,8 @@ returns-2 c st line points t = refuses _ (c .refused2 .ensures) (sym (ap verdict
 returns-3 : tie.Need-returns-3
 returns-3 c st line points t =
     let d = c .before .before in
-    record { verdict = sym (ap verdictOf (c .enum-told2 .given .1)) ∙ debits-told d t; bills = λ _. billed (d .before .before) t }
+    let told = sym (ap verdictOf (c .enum-told2 .given .1)) ∙ debits-told d t in
+    record { verdict = told; bills = λ _. billed (d .before .before) t; none = λ k p e. absurd (refused-not-accepted (sym (told ∙ e))) }
 
 pub weighed-spec : {M : Type 1} → statement M
 weighed-spec =

@@ -1,0 +1,42 @@
+-- WHAT A CALLER IN C LEARNS, in paper 01's words ("The month file", last paragraph): from `Reads.Learnt`, generated of the checked
+-- contracts of `rateio_share` and `rateio_check`, so that a contract that promises less is refused here. Nothing is assumed of a caller.
+use mathlib.Core.Path.{refl, sym, ap, subst}
+use lib.IntN.{ℤ}
+use contract.Lifetimes.{Lfts}
+use denote.Ref.{now}
+use denote.Triple.Entry.{Args, Res}
+use denote.Triple.Clauses.{Lasts, atExit}
+use Rattle.share.specs.Answer.{sharing, seenByC}
+use Rattle.share.proofs.Limits.{share-limits}
+use Rattle.format.specs.Language.{Checked}
+use Rattle.format.proofs.FileCheck.{file-check}
+use Rattle.rateio_c.specs.Seen.{SeenShare}
+use Rattle.rateio_c.proofs.rateio_share as share
+use Rattle.rateio_c.proofs.rateio_share.Reads as share-reads
+use Rattle.rateio_c.proofs.rateio_check as check
+use Rattle.rateio_c.proofs.rateio_check.Reads as check-reads
+
+-- neither has a `requires` that its caller would have to show first
+pub asks-nothing :
+    ((κs : Lfts 0) (a : Args share.signature κs) → share-reads.Asked κs a) × ((κs : Lfts 1) (a : Args check.signature κs) → check-reads.Asked κs a)
+asks-nothing = (λ κs a. tt, λ κs a. tt)
+
+seen : (P b t W : ℤ) → SeenShare P b t W (seenByC (sharing P b t W))
+seen P b t W =
+    let l = share-limits P b t W in
+    record {
+      part = λ p w s. ap seenByC (l .part _ .1 (p, w, s, refl));
+      amount = λ p. ap seenByC (l .amount .1 p);
+      total = λ p w. ap seenByC (l .total .1 (p, w));
+      sums = λ p w s. ap seenByC (l .sums .1 (p, w, s));
+    }
+
+-- THE SHARE: the part where the limits hold, else −10^18 less the place
+pub share-learnt : (κs : Lfts 0) (a : Args share.signature κs) (r : Res share.signature κs) (last : Lasts share.ended κs a)
+    → share-reads.Learnt κs a r (atExit share.ended κs a last) → SeenShare (a .0) (a .1 .0) (a .1 .1 .0) (a .1 .1 .1 .0) r
+share-learnt κs a r last l = subst (λ (x : ℤ). SeenShare (a .0) (a .1 .0) (a .1 .1 .0) (a .1 .1 .1 .0) x) (sym l) (seen _ _ _ _)
+
+-- THE FILE CHECK: −1 for files on end, else the place of the 11; −2 over 10^15 bytes
+pub check-learnt : (κs : Lfts 1) (a : Args check.signature κs) (r : Res check.signature κs) (last : Lasts check.ended κs a)
+    → check-reads.Learnt κs a r (atExit check.ended κs a last) → Checked (now (a .0)) r
+check-learnt κs a r last l = subst (λ (x : ℤ). Checked (now (a .0)) x) (sym l) (file-check (now (a .0)))

@@ -1,0 +1,2 @@
+-- `Seen` is what C sees of the share.
+pub mod Seen
