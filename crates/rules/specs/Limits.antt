@@ -1,5 +1,5 @@
 -- THE LIMITS of opening and closing, said positively (paper 01, "The ledger", "A month's lines" and "Why a month comes back"): what it is to
--- keep each, and their order. Nothing of Refusals' tests stands here; that these limits and those tests agree is proofs/Limits.
+-- keep each, and their order. Nothing of Refusals' tests stands here; that these limits and those tests agree is proofs/LimitsMonth.
 use Prim.Native.Nat.{ℕ, suc, _≤_}
 use mathlib.Core.Path.{_≡_}
 use mathlib.Core.Logic.{_⊎_}
