@@ -27,7 +27,7 @@ use Rattle.rules.proofs.Limits.{Agrees}
 use Rattle.rules.proofs.LimitsMonth.{opening-agrees, closing-agrees}
 
 -- ---- the answer
-answered : {t : Limit} {v : Verdict} {a : Answer} → Agrees t v → verdictOf a ≡ v → AnsweredBy t a
+pub answered : {t : Limit} {v : Verdict} {a : Answer} → Agrees t v → verdictOf a ≡ v → AnsweredBy t a
 answered {t} {v} {a} g e = record {
   accepted = (λ k. verdict-accepted a (e ∙ g .accepted .0 k), λ x. g .accepted .1 (sym e ∙ ap verdictOf x));
   refused = λ n p. (λ b. verdict-refused a (e ∙ g .refused n p .0 b), λ x. g .refused n p .1 (sym e ∙ ap verdictOf x));
@@ -60,7 +60,7 @@ demand-1-opening users agents held r held′ o =
 
 -- ---- closing
 -- as many entries as were there, where as many as were written take the place of the first
-same-length : {A : Type 0} (n : ℕ) (xs ys : List A) → length xs ≡ n → n ≤ length ys → length (xs ++ drop n ys) ≡ length ys
+pub same-length : {A : Type 0} (n : ℕ) (xs ys : List A) → length xs ≡ n → n ≤ length ys → length (xs ++ drop n ys) ≡ length ys
 same-length n xs ys e h = omega (arith, length-append xs (drop n ys), length-drop n ys)
 
 pub demand-1-closing : (c : Call) → Promised c → Demand1Closing c
