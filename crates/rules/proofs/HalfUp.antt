@@ -4,7 +4,7 @@ use native.Mathlib.Omega.{arith}
 use mathlib.Core.Path.{_≡_}
 use lib.IntN.{ℤ, pos, _+ℤ_, _*ℤ_}
 use lib.Signed.{_≤ℤ_, _<ℤ_}
-use Rattle.ints.specs.Floor.{IsFloor, floor-is, floor-eq}
+use Rattle.ints.specs.Floor.{floor-is, floor-eq}
 use Rattle.rules.specs.Charges.{halfUp}
 
 -- q is x / d rounded half up: q · 2d ≤ 2x + d < (q + 1) · 2d

@@ -9,7 +9,7 @@ use lib.ListN.{length, getD}
 use lib.Seq.{ext-getD}
 use Rattle.ints.specs.Floor.{floor}
 use Rattle.ints.specs.Sums.{sumℤ}
-use Rattle.rules.specs.Table.{Cell, rounded-down, rounded-up, cellAt, Table}
+use Rattle.rules.specs.Table.{Cell, rounded-down, rounded-up, Table}
 
 -- every VC × VD is a multiple of the sum of VD
 pub record AllWhole (vc vd : List ℤ) : Type 0 where
