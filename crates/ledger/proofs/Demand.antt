@@ -26,18 +26,15 @@ use Rattle.rules.specs.Demand.{Call, AllPromised, Demand3, SliceLeft}
 use Rattle.rules.specs.Demand as rules
 use Rattle.rules.proofs.Demand.{demand-3}
 use Rattle.rules.proofs.OneSlice.{demand-3-same-slice}
+use Rattle.records.proofs.Learnt.{CallOf}
 use Rattle.ledger.proofs.open as open'
 use Rattle.ledger.proofs.open.Reads as open-reads
 use Rattle.ledger.proofs.close as close
 use Rattle.ledger.proofs.Learnt.{required, Learnt}
 
 -- a call of close: lifetimes, arguments, result, the last value of each `&mut`, and what the contract tells of them
-pub record Called : Type 0 where
-  pub κs : Lfts 6
-  pub args : Args close.signature κs
-  pub result : Res close.signature κs
-  pub last : Lasts close.ended κs args
-  pub learnt : Learnt κs args result (atExit close.ended κs args last)
+abbrev pub Called : Type 0
+Called = CallOf close.ended Learnt
 
 -- a call of open that was accepted
 pub record Opened : Type 0 where

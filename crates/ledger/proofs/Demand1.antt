@@ -5,15 +5,13 @@
 -- What is assumed of a call is what a caller learns from the contract that the program is proved to meet, as for demand 3
 -- (proofs/Demand). Nothing else is.
 use mathlib.Core.List.{List, map}
-use contract.Lifetimes.{Lfts}
 use denote.Ref.{now}
-use denote.Triple.Entry.{Args, Res}
-use denote.Triple.Clauses.{Lasts, atExit}
 use lib.IntN.{ℤ}
 use Rattle.rules.specs.Lines.{pointOf, monthLines}
 use Rattle.rules.specs.Demand.{Call}
 use Rattle.rules.specs.Demand1.{Demand1Opening, Demand1Closing}
 use Rattle.rules.proofs.Demand1.{demand-1-opening, demand-1-closing}
+use Rattle.records.proofs.Learnt.{CallOf}
 use Rattle.ledger.proofs.open as open'
 use Rattle.ledger.proofs.open.Reads as open-reads
 use Rattle.ledger.proofs.close_lines as close-lines
@@ -22,12 +20,8 @@ use Rattle.ledger.proofs.Demand.{Called, plain}
 
 -- ---- opening
 -- a call of open: lifetimes, arguments, result, the last value of the `&mut`, and what the contract tells of them
-pub record Opening : Type 0 where
-  pub κs : Lfts 1
-  pub args : Args open'.signature κs
-  pub result : Res open'.signature κs
-  pub last : Lasts open'.ended κs args
-  pub learnt : open-reads.Learnt κs args result (atExit open'.ended κs args last)
+abbrev pub Opening : Type 0
+Opening = CallOf open'.ended open-reads.Learnt
 
 -- open(users, agents, held)
 pub Demand-1-opening : (o : Opening) → Demand1Opening (o .args .0) (o .args .1 .0) (now (o .args .1 .1 .0)) (o .result) (o .last .1 .1 .0)
@@ -38,12 +32,8 @@ pub Demand-1-closing : (c : Called) → Demand1Closing (plain c)
 Demand-1-closing c = demand-1-closing (plain c) (c .learnt)
 
 -- ---- closing a month whose points are lines
-pub record CalledLines : Type 0 where
-  pub κs : Lfts 6
-  pub args : Args close-lines.signature κs
-  pub result : Res close-lines.signature κs
-  pub last : Lasts close-lines.ended κs args
-  pub learnt : close-lines-reads.Learnt κs args result (atExit close-lines.ended κs args last)
+abbrev pub CalledLines : Type 0
+CalledLines = CallOf close-lines.ended close-lines-reads.Learnt
 
 -- close_lines(ledger, held, line, agents, users, points, cells, work), its parts by name
 abbrev pub plain-lines : CalledLines → Call

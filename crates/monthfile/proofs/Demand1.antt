@@ -7,14 +7,14 @@ use mathlib.Core.List.{List, map-id}
 use base.Logic.{ent, emp, id⊢}
 use contract.Lifetimes.{Lfts}
 use denote.Ref.{now}
-use denote.Triple.Entry.{Args, Res}
-use denote.Triple.Clauses.{Lasts, atExit}
+use denote.Triple.Entry.{Args}
 use borrow.Fn.World.{World}
 use lib.IntN.{ℤ}
 use Rattle.format.specs.Language.{Checked}
 use Rattle.format.proofs.FileCheck.{file-check}
 use Rattle.rules.specs.Lines.{pointOf}
 use Rattle.rules.specs.declared.Point.{Point}
+use Rattle.records.proofs.Learnt.{CallOf}
 use Rattle.monthfile.specs.Reads.{asLines, asPoints, nextOf}
 use Rattle.monthfile.specs.Demand1.{ReadCall, Demand1Reading, Demand1Reader}
 use Rattle.monthfile.specs.declared.reading.Reading.{Reading}
@@ -28,33 +28,17 @@ use Rattle.monthfile.proofs.points.read_at as read-at
 use Rattle.monthfile.proofs.reader.read as read
 
 -- a call: lifetimes, arguments, result, the last value of each `&mut`, and what the contract tells of them
-pub record FileChecked : Type 0 where
-  pub κs : Lfts 1
-  pub args : Args check.signature κs
-  pub result : Res check.signature κs
-  pub last : Lasts check.ended κs args
-  pub learnt : check-reads.Learnt κs args result (atExit check.ended κs args last)
+abbrev pub FileChecked : Type 0
+FileChecked = CallOf check.ended check-reads.Learnt
 
-pub record LinesRead : Type 0 where
-  pub κs : Lfts 4
-  pub args : Args read-lines.signature κs
-  pub result : Res read-lines.signature κs
-  pub last : Lasts read-lines.ended κs args
-  pub learnt : read-lines-reads.Learnt κs args result (atExit read-lines.ended κs args last)
+abbrev pub LinesRead : Type 0
+LinesRead = CallOf read-lines.ended read-lines-reads.Learnt
 
-pub record ReadAt : Type 0 where
-  pub κs : Lfts 4
-  pub args : Args read-at.signature κs
-  pub result : Res read-at.signature κs
-  pub last : Lasts read-at.ended κs args
-  pub learnt : ReadAtLearnt κs args result (atExit read-at.ended κs args last)
+abbrev pub ReadAt : Type 0
+ReadAt = CallOf read-at.ended ReadAtLearnt
 
-pub record ReaderRead : Type 0 where
-  pub κs : Lfts 5
-  pub args : Args read.signature κs
-  pub result : Res read.signature κs
-  pub last : Lasts read.ended κs args
-  pub learnt : ReadLearnt κs args result (atExit read.ended κs args last)
+abbrev pub ReaderRead : Type 0
+ReaderRead = CallOf read.ended ReadLearnt
 
 -- none has a `requires` that its caller would have to show first
 pub asks-nothing :

@@ -8,6 +8,7 @@ use mathlib.Core.Bool.{Bool, true, false, cond, not}
 use mathlib.Core.List.{List, [], _∷_}
 use borrow.Author.Tests.{ne-eqb}
 use lib.Dec.{T, eqb}
+use lib.Ieee.Bits.{is-true}
 use lib.ListN.{getD}
 use lib.IntN.{ℤ, pos, _+ℤ_, _-ℤ_, _*ℤ_}
 use lib.Signed.{ltZ}
@@ -28,11 +29,7 @@ abbrev pub yyyymm : ℕ → ℕ → ℤ
 yyyymm y m = pos (100 * y + m)
 
 told : {a b : ℤ} → T (eqZ a b) → a ≡ b
-told {a} {b} t = eqZ-true a b (T-true (eqZ a b) t)
-  where
-    T-true : (t : Bool) → T t → t ≡ true
-    T-true true h = refl
-    T-true false h = absurd h
+told {a} {b} t = eqZ-true a b (is-true (eqZ a b) t)
 
 -- what the cycle month is, in words, in one year: July is 1, January 7, any other month one more than the month before it
 pub record InWords (y : ℕ) : Type 0 where

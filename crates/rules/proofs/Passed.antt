@@ -5,7 +5,8 @@ use mathlib.Core.Logic.{_≢_}
 use mathlib.Core.Bool.{Bool, true, false, not, _||_}
 use mathlib.Core.List.{List, [], map}
 use native.Mathlib.Omega.{arith}
-use lib.Dec.{T, eqb, ltb}
+use lib.Dec.{eqb, ltb}
+use lib.Ieee.Bits.{is-true}
 use lib.IntN.{ℤ, pos}
 use lib.ListN.{length, getD}
 use lib.Signed.{_<ℤ_, ltZ}
@@ -62,12 +63,8 @@ not-equal a b h = go (eqZ a b) refl
     go true e = absurd (h (eqZ-true a b e))
     go false e = refl
 
-T-true : (t : Bool) → T t → t ≡ true
-T-true true h = refl
-T-true false h = absurd h
-
 pub ltZ-is : {a b : ℤ} → a <ℤ b → ltZ a b ≡ true
-ltZ-is h = T-true _ (h .lt)
+ltZ-is h = is-true _ (h .lt)
 
 -- ---- what the parts of `refusal` tell
 pub between : (n most : ℕ) → (eqb n 0 || ltb most n) ≡ false → (0 < n) × (n ≤ most)

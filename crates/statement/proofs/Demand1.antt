@@ -4,10 +4,10 @@ use mathlib.Core.List.{map}
 use base.Logic.{ent, emp, id⊢}
 use contract.Lifetimes.{Lfts}
 use denote.Ref.{now}
-use denote.Triple.Entry.{Args, Res}
-use denote.Triple.Clauses.{Lasts, atExit}
+use denote.Triple.Entry.{Args}
 use borrow.Fn.World.{World}
 use Rattle.rules.specs.Lines.{pointOf, monthLines}
+use Rattle.records.proofs.Learnt.{CallOf}
 use Rattle.statement.specs.Demand1.{StateCall, Demand1Stating}
 use Rattle.statement.proofs.Promised.{demand-1}
 use Rattle.statement.proofs.Learnt.{required, Learnt}
@@ -16,19 +16,11 @@ use Rattle.statement.proofs.state_lines as lines
 use Rattle.statement.proofs.state_lines.Reads as lines-reads
 
 -- a call: lifetimes, arguments, result, the last value of each `&mut`, and what the contract tells of them
-pub record Called : Type 0 where
-  pub κs : Lfts (state.signature .lifetimes)
-  pub args : Args state.signature κs
-  pub result : Res state.signature κs
-  pub last : Lasts state.ended κs args
-  pub learnt : Learnt κs args result (atExit state.ended κs args last)
+abbrev pub Called : Type 0
+Called = CallOf state.ended Learnt
 
-pub record CalledLines : Type 0 where
-  pub κs : Lfts (lines.signature .lifetimes)
-  pub args : Args lines.signature κs
-  pub result : Res lines.signature κs
-  pub last : Lasts lines.ended κs args
-  pub learnt : lines-reads.Learnt κs args result (atExit lines.ended κs args last)
+abbrev pub CalledLines : Type 0
+CalledLines = CallOf lines.ended lines-reads.Learnt
 
 -- neither has a `requires` that its caller would have to show first
 pub asks-nothing :
