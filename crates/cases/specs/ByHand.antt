@@ -8,7 +8,7 @@ use Rattle.share.specs.Running.{runningShare}
 use Rattle.format.specs.Bytes.{bytes}
 use Rattle.format.specs.Blocks.{slices}
 use Rattle.format.specs.Reading.{reading, accepted as read}
-use Rattle.format.proofs.Examples.{input, values}
+use Rattle.format.specs.Example.{input, values}
 use Rattle.rules.specs.Verdict.{accepted}
 use Rattle.rules.specs.Calendar.{cycleMonth}
 use Rattle.rules.specs.Lines.{consumer}

@@ -16,7 +16,8 @@ use Rattle.rules.specs.declared.Answer.the-variants.{Accepted, Refused}
 use Rattle.rules.specs.Verdict.{accepted, refused, eachLine}
 use Rattle.rules.specs.Lists.{eachFrom, sideBySide}
 use Rattle.rules.specs.Calendar.{monthOfYear, impossibleMonth, cycleMonth}
-use Rattle.rules.specs.Lines.{Lines, agentOf, userOf, pointOf, kindOf, badAgent, badUser, badPoint, unfitPoint}
+use Rattle.rules.specs.Lines.{Lines, monthLines, kindOf, badAgent, badUser, badPoint, unfitPoint}
+use Rattle.rules.specs.July.{julyLine, julyAgents, julyPoints, lines, points, july}
 use Rattle.rules.specs.Charges.{halfUp, orZero, useCharge, allowance, excess, overrun, ofUser, EUSTs}
 use Rattle.rules.specs.Charges.{overrunSums, VMEs, pvTotal, CPVs, ns, VDs, newCredits}
 use Rattle.rules.specs.Credits.{VMPA, VMST, ownCredit, ownCredits, SMSEFrom, VMANTsFrom, agentVCsFrom, VCsFrom, VCs}
@@ -29,29 +30,16 @@ use Rattle.rules.proofs.Promise.{opens-accepted, closes-accepted, close
 use Rattle.rules.proofs.Demand.{demand-3}
 
 -- the example file's lines, in this month and with this correction of the first user; in August it is owed more than it is charged
-abbrev lines : ℤ → ℤ → Lines
-lines month ret =
-    record {
-      line = record { month = month; ons = pos 100 };
-      agents =
-          agentOf (map pos (1 ∷ 1000 ∷ 0 ∷ 0 ∷ 0 ∷ 0 ∷ 4 ∷ []))
-          ∷ agentOf (map pos (2 ∷ 2000 ∷ 30 ∷ 0 ∷ 0 ∷ 25 ∷ 0 ∷ []))
-          ∷ [];
-      users = userOf (pos 1 ∷ pos 2 ∷ ret ∷ []) ∷ userOf (map pos (2 ∷ 3 ∷ 0 ∷ [])) ∷ [];
-      points =
-          pointOf (map pos (1 ∷ 1000 ∷ 500 ∷ 0 ∷ 0 ∷ 3 ∷ 2 ∷ 3 ∷ 2 ∷ []))
-          ∷ pointOf (map pos (2 ∷ 2000 ∷ 0 ∷ 50 ∷ 0 ∷ 16 ∷ 0 ∷ 16 ∷ 0 ∷ []))
-          ∷ [];
-    }
-
-abbrev july : Lines
-july = lines (pos 202407) (pos 0)
+abbrev inMonth : ℤ → ℤ → Lines
+inMonth month ret =
+    monthLines (record { month = month; ons = julyLine .ons }) (lines julyAgents) ((pos 1 ∷ pos 2 ∷ ret ∷ []) ∷ (pos 2 ∷ pos 3 ∷ pos 0 ∷ []) ∷ [])
+    (points julyPoints)
 
 abbrev august : Lines
-august = lines (pos 202408) (negsuc 449)
+august = inMonth (pos 202408) (negsuc 449)
 
 abbrev september : Lines
-september = lines (pos 202409) (pos 0)
+september = inMonth (pos 202409) (pos 0)
 
 -- a slice of three entries, for two users: what it held before the opening, and after it
 abbrev before : List ℤ

@@ -1,7 +1,7 @@
 -- What follows from the definitions of specs/: `Entries` is what stands at each row; `ByColumn` what each column is; `Owing` that the
 -- users' rows are those of `Statement`; `Writing` that an accepted month has what its rows ask; `Stating` what a judged statement may
--- write, and promises; `CaseA` the rows of paper 01's month; `Pins` the calls' contracts. Demand 1: `Promised`
--- is it of a promise, `Demand1` over what a caller learns (`Learnt`).
+-- write, and promises; `CaseA` the rows of paper 01's month; `Pins` the calls' contracts. Demands 1 and 2:
+-- `Promised` is 1 of a promise; `Demand1` and `Demand2` are over what a caller learns (`Learnt`).
 pub mod Entries
 pub mod ByColumn
 pub mod Owing
@@ -12,3 +12,4 @@ pub mod Pins
 pub mod Learnt
 pub mod Promised
 pub mod Demand1
+pub mod Demand2

@@ -1,11 +1,11 @@
--- DEMAND 1 of one statement that kept its promise `States`. Assumes nothing else.
+-- DEMAND 1 of one statement that kept its promise `States`; of an accepted one, what it wrote. Assumes nothing else.
 use Prim.Native.Nat.{ℕ, _+_, _≤_}
 use mathlib.Core.Path.{_≡_, sym, ap, ap₂, _∙_}
 use mathlib.Core.List.{List, [], _∷_, _++_}
 use native.Mathlib.Omega.{arith}
 use lib.IntN.{ℤ}
 use lib.ListN.{length, drop, length-map, length-append}
-use lib.Seq.{drop-at}
+use lib.Seq.{drop-at, length-take-le}
 use Rattle.rules.specs.declared.Answer.the-variants.{Accepted, Refused}
 use Rattle.rules.specs.Verdict.{Verdict, accepted}
 use Rattle.rules.specs.Lines.{Agent}
@@ -44,7 +44,7 @@ unfolding agentRowsOf
 agent-count month vmant vc agents = length-eachFrom 0 _ agents
 
 module _ (c : StateCall) where
-  abbrev Promised : Type 0
+  abbrev pub Promised : Type 0
   Promised = States (c .ledger) (c .held) (c .lines) (c .points) (c .users) (c .payees) (c .stated) (c .pointsLeft) (c .usersLeft) (c .payeesLeft)
 
   abbrev s : State
@@ -56,47 +56,52 @@ module _ (c : StateCall) where
   abbrev n : RowRooms
   n = record { held = length (c .held); points = length (c .points); users = length (c .users); payees = length (c .payees) }
 
-  point-count : length (pointRows (c .lines)) ≡ length (c .lines .points)
+  pub point-count : length (pointRows (c .lines)) ≡ length (c .lines .points)
   unfolding pointRows
   point-count = length-map (c .lines .points) (pointRow (c .lines .users))
 
-  user-count : length (userRows s (c .lines)) ≡ length (c .lines .users)
+  pub user-count : length (userRows s (c .lines)) ≡ length (c .lines .users)
   unfolding userRows userRowsOf
   user-count = length-eachFrom 0 _ (c .lines .users)
 
-  payee-count : length (payeeRows s (c .lines)) ≡ length (c .lines .agents) + 1
+  pub payee-count : length (payeeRows s (c .lines)) ≡ length (c .lines .agents) + 1
   unfolding payeeRowsFrom
   payee-count =
       let vc = agentVCsFrom (sumℤ (VDs s (c .lines))) (c .lines .line) (c .lines .agents) in
       let rows = agentRowsOf (c .lines .line .month) (VMANTs s (c .lines)) vc (c .lines .agents) in
       length-append rows (onsRow (c .lines .line .ons) ∷ []) ∙ ap (λ (n : ℕ). n + 1) (agent-count _ _ _ (c .lines .agents))
 
-  pub demand-1 : Promised → Demand1Stating c
-  demand-1 o = record {
-    answer = answered (month-agrees s (rowRooms s n (length (c .lines .points))) short (c .lines) rooms) e;
-    unchanged = λ n p a.
-        let b = o .where-refused n p (sym e ∙ ap verdictOf a) in
-        record { balance = ap (λ (x : Stated). x .smse) (b .stated); points = b .point-rows; users = b .user-rows; payees = b .payee-rows };
-    points = λ a. beyond _ (pointRows (c .lines)) _ _ point-count (room a .1 .0) (done a .point-rows);
-    users = λ a. beyond _ (userRows s (c .lines)) _ _ user-count (omega (arith, room a .1 .1 .0, month a .users)) (done a .user-rows);
-    payees = λ a. beyond _ (payeeRows s (c .lines)) _ _ payee-count (omega (arith, room a .1 .1 .1, month a .agents)) (done a .payee-rows);
-  }
-    where
-      rooms : Agrees (rowRooms s n (length (c .lines .points))) short
-      rooms = rooms-agree s n (length (c .lines .points))
+  rooms : Agrees (rowRooms s n (length (c .lines .points))) short
+  rooms = rooms-agree s n (length (c .lines .points))
 
-      e : verdictOf (c .stated .answer) ≡ refusal s short (c .lines)
-      e = answers (λ d. ap (λ (x : Stated). x .answer) (d .stated)) (λ n p b. ap (λ (x : Stated). x .answer) (b .stated)) o
+  module _ (o : Promised) where
+    verdict : verdictOf (c .stated .answer) ≡ refusal s short (c .lines)
+    verdict = answers (λ d. ap (λ (x : Stated). x .answer) (d .stated)) (λ n p b. ap (λ (x : Stated). x .answer) (b .stated)) o
 
-      kept : c .stated .answer ≡ Accepted → refusal s short (c .lines) ≡ accepted
-      kept a = sym e ∙ ap verdictOf a
+    module _ (a : c .stated .answer ≡ Accepted) where
+      kept : refusal s short (c .lines) ≡ accepted
+      kept = sym verdict ∙ ap verdictOf a
 
-      done : c .stated .answer ≡ Accepted
-          → StatedMonth (c .ledger) (c .held) (c .lines) (c .points) (c .users) (c .payees) (c .stated) (c .pointsLeft) (c .usersLeft) (c .payeesLeft)
-      done a = o .where-accepted (kept a)
+      pub accepted-so :
+          StatedMonth (c .ledger) (c .held) (c .lines) (c .points) (c .users) (c .payees) (c .stated) (c .pointsLeft) (c .usersLeft) (c .payeesLeft)
+      accepted-so = o .where-accepted kept
 
-      room : c .stated .answer ≡ Accepted → rowRooms s n (length (c .lines .points)) .keeps
-      room a = rooms .accepted .1 (slices-accepted s short (c .lines) (kept a))
+      room : rowRooms s n (length (c .lines .points)) .keeps
+      room = rooms .accepted .1 (slices-accepted s short (c .lines) kept)
 
-      month : c .stated .answer ≡ Accepted → Passed s (c .lines)
-      month a = passed s short (c .lines) (kept a)
+      month : Passed s (c .lines)
+      month = passed s short (c .lines) kept
+
+      pub one-each : length (s .credits) ≡ length (c .lines .users)
+      one-each = length-take-le (c .ledger .users) (c .held) (room .0) ∙ sym (month .users)
+
+    pub demand-1 : Demand1Stating c
+    demand-1 = record {
+      answer = answered (month-agrees s (rowRooms s n (length (c .lines .points))) short (c .lines) rooms) verdict;
+      unchanged = λ n p a.
+          let b = o .where-refused n p (sym verdict ∙ ap verdictOf a) in
+          record { balance = ap (λ (x : Stated). x .smse) (b .stated); points = b .point-rows; users = b .user-rows; payees = b .payee-rows };
+      points = λ a. beyond _ (pointRows (c .lines)) _ _ point-count (room a .1 .0) (accepted-so a .point-rows);
+      users = λ a. beyond _ (userRows s (c .lines)) _ _ user-count (omega (arith, room a .1 .1 .0, month a .users)) (accepted-so a .user-rows);
+      payees = λ a. beyond _ (payeeRows s (c .lines)) _ _ payee-count (omega (arith, room a .1 .1 .1, month a .agents)) (accepted-so a .payee-rows);
+    }
