@@ -25,7 +25,12 @@ module _ (c : StateCall) (o : Promised c) (a : c .stated .answer ≡ Accepted) w
   front : (n : ℕ) (rows lent left : List (List ℤ)) → length rows ≡ n → left ≡ rows ++ drop n lent → take n left ≡ rows
   front n rows lent left e w = ap (take n) w ∙ take-at rows (drop n lent) n e
 
-  by : (n k : ℕ) (rows lent left : List (List ℤ)) {xs : List ℤ} → length rows ≡ n → left ≡ rows ++ drop n lent → column k rows ≡ xs → column k (take n left) ≡ xs
+  by :
+      (n k : ℕ) (rows lent left : List (List ℤ)) {xs : List ℤ}
+      → length rows ≡ n
+      → left ≡ rows ++ drop n lent
+      → column k rows ≡ xs
+      → column k (take n left) ≡ xs
   by n k rows lent left e w x = ap (column k) (front n rows lent left e w) ∙ x
 
   abbrev of-points : (k : ℕ) {xs : List ℤ} → column k (pointRows (c .lines)) ≡ xs → column k (take (length (c .lines .points)) (c .pointsLeft)) ≡ xs
