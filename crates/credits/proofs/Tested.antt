@@ -15,7 +15,7 @@ use Rattle.rules.specs.State.{State}
 use Rattle.rules.specs.Credits.{pbs}
 use Rattle.rules.specs.Refusals.{agentTest}
 use Rattle.rules.proofs.Tests.{when-accepted, each-from-1}
-use Rattle.rules.proofs.Fits.{not-impossible, agent-fits, amounts-fit}
+use Rattle.rules.proofs.Fits.{not-impossible, agent-fits}
 use Rattle.rules.proofs.Passed.{Passed}
 use Rattle.rules.proofs.Ranged.{Ranged, ranged-passed}
 use Rattle.rules.proofs.BoundsCharges.{charge-bounds}
@@ -27,11 +27,11 @@ use Rattle.credits.specs.Payable.{Payable}
 pub accepted-lines : (agents : List Agent) → length agents ≤ 256 → eachLine agentTest 1 agents ≡ accepted → AgentLines agents
 accepted-lines agents h e = record {
   few = h;
-  line = λ i k. amounts-fit (agent-fits (suc i) _ (when-accepted _ 5 (suc i) (each-from-1 agentTest agents (agentOf []) e i k)));
+  line = λ i k. agent-fits (suc i) _ (when-accepted _ 5 (suc i) (each-from-1 agentTest agents (agentOf []) e i k)) .amounts;
 }
 
 pub agent-lines : {s : State} {l : Lines} → Ranged s l → AgentLines (l .agents)
-agent-lines r = record { few = r .few-agents; line = λ i h. amounts-fit (r .agent i h) }
+agent-lines r = record { few = r .few-agents; line = λ i h. r .agent i h .amounts }
 
 pub payable :
     {s : State} {l : Lines}

@@ -12,7 +12,7 @@ use Rattle.rules.specs.Verdict.{accepted}
 use Rattle.rules.specs.Calendar.{monthOfYear, impossibleMonth}
 use Rattle.rules.specs.Lines.{Agent, User, kindOf, badAmounts, badBand, badAgent, badUser, badPoint, unfitPoint}
 use Rattle.rules.specs.Refusals.{pointTest}
-use Rattle.rules.specs.Ranges.{Amount, Tariff, Discount, Power, AmountsFit}
+use Rattle.rules.specs.Ranges.{Amount, Tariff, Discount, Power}
 use Rattle.rules.specs.Limits.{AgentFits, UserFits, PointFits}
 use Rattle.rules.proofs.Tests.{when-accepted, when-then}
 
@@ -57,17 +57,8 @@ agent-fits k a e =
     let m = amounts-within (e₁ .1) in
     record {
       number = eqZ-true _ _ (not-false _ (e₁ .0));
-      pb = m .0;
-      pv = m .1;
-      afs = m .2;
-      rfs = m .3;
-      pa = outside-false _ _ _ (e₂ .1);
-      ret = outside-false _ _ _ (e₃ .1);
+      amounts = record { pb = m .0; pv = m .1; afs = m .2; rfs = m .3; pa = outside-false _ _ _ (e₂ .1); ret = outside-false _ _ _ (e₃ .1) };
     }
-
--- its amounts
-pub amounts-fit : {k : ℕ} {a : Agent} → AgentFits k a → AmountsFit a
-amounts-fit f = record { pb = f .pb; pv = f .pv; afs = f .afs; rfs = f .rfs; pa = f .pa; ret = f .ret }
 
 pub user-fits : (k : ℕ) (u : User) → badUser k u ≡ false → UserFits k u
 unfolding badUser

@@ -9,7 +9,7 @@ use native.Mathlib.Omega.{arith}
 use native.Mathlib.Nat.{not-suc-le-zero, le-of-suc-le-suc}
 use lib.ListN.{length, getD}
 use Rattle.rules.specs.Verdict.{Verdict, accepted, refused, when, _then_, eachLine}
-use Rattle.rules.specs.Limits.{Limit, limit, _before_, Each, First, lineByLine}
+use Rattle.rules.specs.Limits.{Limit, limit, _before_, Each, First, linesFrom, lineByLine}
 use Rattle.rules.proofs.Tests.{refused-not-accepted}
 
 pub record Agrees (t : Limit) (v : Verdict) : Type 0 where
@@ -60,27 +60,16 @@ agrees-before {a} {b} (refused m q) w f g =
     first n p (inr x) = absurd (refused-not-accepted (f .accepted .0 (x .0)))
 
 -- ---- line by line, positions from k
-record FirstFrom {A : Type 0} (k : ℕ) (limits : ℕ → A → Limit) (xs : List A) (n p : ℕ) : Type 0 where
-  earlier : List A
-  line : A
-  later : List A
-  is : xs ≡ earlier ++ line ∷ later
-  kept : Each (λ k x. limits k x .keeps) k earlier
-  broken : limits (k + length earlier) line .breaks n p
-
 module _ {A : Type 0} (limits : ℕ → A → Limit) where
-  abbrev linesFrom : ℕ → List A → Limit
-  linesFrom k xs = record { keeps = Each (λ k x. limits k x .keeps) k xs; breaks = FirstFrom k limits xs }
-
   -- no line is broken among none; the first of several is the next one, or it is kept and the first of the others is
-  none : (k : ℕ) {n p : ℕ} → FirstFrom k limits [] n p → ⊥
+  none : (k : ℕ) {n p : ℕ} → First limits k [] n p → ⊥
   none k f = empty (f .earlier) (f .line) (f .later) (f .is)
     where
       empty : (xs : List A) (x : A) (ys : List A) → [] ≡ xs ++ x ∷ ys → ⊥
       empty [] x ys e = let z : 0 ≡ suc (length ys) = ap length e in omega arith
       empty (y ∷ xs) x ys e = let z : 0 ≡ suc (length (xs ++ x ∷ ys)) = ap length e in omega arith
 
-  this : (k : ℕ) (x : A) (xs : List A) {n p : ℕ} → limits k x .breaks n p → FirstFrom k limits (x ∷ xs) n p
+  this : (k : ℕ) (x : A) (xs : List A) {n p : ℕ} → limits k x .breaks n p → First limits k (x ∷ xs) n p
   unfolding Each
   this k x xs {n} {p} b = record {
     earlier = [];
@@ -91,7 +80,7 @@ module _ {A : Type 0} (limits : ℕ → A → Limit) where
     broken = subst (λ (m : ℕ). limits m x .breaks n p) (omega arith) b;
   }
 
-  another : (k : ℕ) (x : A) (xs : List A) {n p : ℕ} → limits k x .keeps → FirstFrom (suc k) limits xs n p → FirstFrom k limits (x ∷ xs) n p
+  another : (k : ℕ) (x : A) (xs : List A) {n p : ℕ} → limits k x .keeps → First limits (suc k) xs n p → First limits k (x ∷ xs) n p
   unfolding Each
   another k x xs {n} {p} h f = record {
     earlier = x ∷ f .earlier;
@@ -104,13 +93,13 @@ module _ {A : Type 0} (limits : ℕ → A → Limit) where
 
   either :
       (k : ℕ) (x : A) (xs : List A) {n p : ℕ}
-      → FirstFrom k limits (x ∷ xs) n p
-      → limits k x .breaks n p ⊎ (limits k x .keeps × FirstFrom (suc k) limits xs n p)
+      → First limits k (x ∷ xs) n p
+      → limits k x .breaks n p ⊎ (limits k x .keeps × First limits (suc k) xs n p)
   unfolding Each
   either k x xs {n} {p} f = go (f .earlier) (f .is) (f .kept) (f .broken)
     where
       go : (ys : List A) → x ∷ xs ≡ ys ++ f .line ∷ f .later → Each (λ k x. limits k x .keeps) k ys → limits (k + length ys) (f .line) .breaks n p
-          → limits k x .breaks n p ⊎ (limits k x .keeps × FirstFrom (suc k) limits xs n p)
+          → limits k x .breaks n p ⊎ (limits k x .keeps × First limits (suc k) xs n p)
       go [] e h b =
           let z : f .line ≡ x = cc in
           inl (subst (λ (m : ℕ). limits m x .breaks n p) (omega arith) (subst (λ (y : A). limits (k + 0) y .breaks n p) z b))
@@ -143,35 +132,12 @@ module _ {A : Type 0} (limits : ℕ → A → Limit) (test : ℕ → A → Verdi
         refused = λ n p. (λ f. both .refused n p .0 (either limits k x xs f), λ e. join n p (both .refused n p .1 e));
       }
     where
-      join : (n p : ℕ) → limits k x .breaks n p ⊎ (limits k x .keeps × FirstFrom (suc k) limits xs n p) → FirstFrom k limits (x ∷ xs) n p
+      join : (n p : ℕ) → limits k x .breaks n p ⊎ (limits k x .keeps × First limits (suc k) xs n p) → First limits k (x ∷ xs) n p
       join n p (inl b) = this limits k x xs b
       join n p (inr b) = another limits k x xs (b .0) (b .1)
 
-  -- positions from 1
   pub agrees-lines : (xs : List A) → Agrees (lineByLine limits xs) (eachLine test 1 xs)
-  agrees-lines xs =
-      let all = agrees-from 1 xs in
-      record { accepted = all .accepted; refused = λ n p. (λ f. all .refused n p .0 (from n p f), λ e. to n p (all .refused n p .1 e)) }
-    where
-      from : (n p : ℕ) → First limits xs n p → FirstFrom 1 limits xs n p
-      from n p f = record {
-        earlier = f .earlier;
-        line = f .line;
-        later = f .later;
-        is = f .is;
-        kept = f .kept;
-        broken = subst (λ (m : ℕ). limits m (f .line) .breaks n p) (omega arith) (f .broken);
-      }
-
-      to : (n p : ℕ) → FirstFrom 1 limits xs n p → First limits xs n p
-      to n p f = record {
-        earlier = f .earlier;
-        line = f .line;
-        later = f .later;
-        is = f .is;
-        kept = f .kept;
-        broken = subst (λ (m : ℕ). limits m (f .line) .breaks n p) (omega arith) (f .broken);
-      }
+  agrees-lines xs = agrees-from 1 xs
 
 -- every line keeps its limit: so does the line at each place
 pub each-at : {A : Type 0} (P : ℕ → A → Type 0) (k : ℕ) (xs : List A) (d : A) → Each P k xs → (i : ℕ) → i < length xs → P (k + i) (getD xs i d)

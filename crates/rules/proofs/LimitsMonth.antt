@@ -58,7 +58,7 @@ pb-nonneg agents e =
     (record {
       at = λ i h.
           let k : i < length agents = omega (arith, length-map agents (λ (a : Agent). a .pb)) in
-          rw (getD-map (λ (a : Agent). a .pb) agents i (agentOf []) (pos 0) k) (each-at AgentFits 1 agents (agentOf []) e i k .pb .above);
+          rw (getD-map (λ (a : Agent). a .pb) agents i (agentOf []) (pos 0) k) (each-at AgentFits 1 agents (agentOf []) e i k .amounts .pb .above);
     })
 
 EUST-nonneg : (l : Lines) → Each (λ k p. pointLimits (l .users) k p .keeps) 1 (l .points) → pos 0 ≤ℤ sumℤ (EUSTs l)

@@ -159,14 +159,15 @@ credit-agrees k x = agrees-when _ 4 k (in-range _ _ x)
 agent-fine : (k : ℕ) (a : Agent) → AgentFits k a → badAgent k a ≡ false
 unfolding badAgent
 agent-fine k a f =
+    let m = f .amounts in
     rw (
       not-unlike (f .number),
-      within-false _ _ _ (f .pb),
-      within-false _ _ _ (f .pv),
-      within-false _ _ _ (f .afs),
-      within-false _ _ _ (f .rfs),
-      within-false _ _ _ (f .pa),
-      within-false _ _ _ (f .ret),
+      within-false _ _ _ (m .pb),
+      within-false _ _ _ (m .pv),
+      within-false _ _ _ (m .afs),
+      within-false _ _ _ (m .rfs),
+      within-false _ _ _ (m .pa),
+      within-false _ _ _ (m .ret),
     )
 
 pub agent-agrees : (k : ℕ) (a : Agent) → Agrees (agentLimit k a) (agentTest k a)

@@ -1,6 +1,6 @@
 -- THE LIMITS of opening and closing, said positively (paper 01, "The ledger", "A month's lines" and "Why a month comes back"): what it is to
 -- keep each, and their order. Nothing of Refusals' tests stands here; that these limits and those tests agree is proofs/LimitsMonth.
-use Prim.Native.Nat.{ℕ, suc, _≤_}
+use Prim.Native.Nat.{ℕ, suc, _+_, _≤_}
 use mathlib.Core.Path.{_≡_}
 use mathlib.Core.Logic.{_⊎_}
 use mathlib.Core.List.{List, [], _∷_, _++_}
@@ -12,7 +12,7 @@ use Rattle.ints.specs.Sums.{sumℤ}
 use Rattle.rules.specs.declared.Point.{Point}
 use Rattle.rules.specs.Most.{mostHeld}
 use Rattle.rules.specs.Lines.{Agent, User, Lines, kindOf, distributor, generator}
-use Rattle.rules.specs.Ranges.{Amount, Correction, Tariff, Discount, Power}
+use Rattle.rules.specs.Ranges.{Amount, Correction, Tariff, Discount, Power, AmountsFit}
 use Rattle.rules.specs.State.{State}
 use Rattle.rules.specs.Charges.{pvTotal, EUSTs, VDs}
 use Rattle.rules.specs.Credits.{pbs}
@@ -39,17 +39,21 @@ Each P k [] = Unit {0}
 Each P k (x ∷ xs) = P k x × Each P (suc k) xs
 
 -- the first line that breaks its limit: those before it keep theirs
-pub record First {A : Type 0} (limits : ℕ → A → Limit) (xs : List A) (n p : ℕ) : Type 0 where
+pub record First {A : Type 0} (limits : ℕ → A → Limit) (k : ℕ) (xs : List A) (n p : ℕ) : Type 0 where
   pub earlier : List A
   pub line : A
   pub later : List A
   pub is : xs ≡ earlier ++ line ∷ later
-  pub kept : Each (λ k x. limits k x .keeps) 1 earlier
-  pub broken : limits (suc (length earlier)) line .breaks n p
+  pub kept : Each (λ k x. limits k x .keeps) k earlier
+  pub broken : limits (k + length earlier) line .breaks n p
 
--- line by line, positions from 1
+-- line by line
+abbrev pub linesFrom : {A : Type 0} → (ℕ → A → Limit) → ℕ → List A → Limit
+linesFrom limits k xs = record { keeps = Each (λ k x. limits k x .keeps) k xs; breaks = First limits k xs }
+
+-- positions from 1
 abbrev pub lineByLine : {A : Type 0} → (ℕ → A → Limit) → List A → Limit
-lineByLine limits xs = record { keeps = Each (λ k x. limits k x .keeps) 1 xs; breaks = First limits xs }
+lineByLine limits xs = linesFrom limits 1 xs
 
 -- ---- months and lines
 -- yyyymm: a year from 2000 to 2099 and a month of it
@@ -63,12 +67,7 @@ pub record Month (m : ℤ) : Type 0 where
 -- the agent line at the position k, from 1
 pub record AgentFits (k : ℕ) (a : Agent) : Type 0 where
   pub number : a .number ≡ pos k
-  pub pb : Amount (a .pb)
-  pub pv : Amount (a .pv)
-  pub afs : Amount (a .afs)
-  pub rfs : Amount (a .rfs)
-  pub pa : Correction (a .pa)
-  pub ret : Correction (a .ret)
+  pub amounts : AmountsFit a
 
 -- the user line at the position k, from 1
 pub record UserFits (k : ℕ) (u : User) : Type 0 where
