@@ -86,7 +86,7 @@ fn deal_row(marks: &mut [u64], lacks: &mut [u64], wants: &mut [u64], counts: &mu
 }
 
 // Deals every row's marks.
-pub fn deal(marks: &mut [u64], lacks: &mut [u64], wants: &mut [u64], counts: &mut [u64])
+pub(crate) fn deal(marks: &mut [u64], lacks: &mut [u64], wants: &mut [u64], counts: &mut [u64])
     requires { ⌜ Grid (now marks) (now lacks) (now wants) ⌝ }
     ensures { λ r. ⌜ Kept (length (now (lacks .entry))) (length (now (wants .entry))) (now (marks .entry)) (now (lacks .entry)) (now (wants .entry))
         (now (marks .exit)) (now (lacks .exit)) (now (wants .exit)) ⌝ }

@@ -9,7 +9,7 @@ ghost use Rattle.cells.specs.Rows.{Carried, RowAsks, RowFloors};
 ghost use Rattle.cells.specs.Floors.{Given, Slices, Floored};
 
 // The debits as unsigned numbers; their sum.
-pub fn naturals(vd: &[i64], debits: &mut [u64]) -> u64
+pub(crate) fn naturals(vd: &[i64], debits: &mut [u64]) -> u64
     requires { ⌜ Unsigned (now vd) (now debits) ⌝ }
     ensures { λ r. ⌜ Naturals (now (vd .entry)) (now (debits .entry)) (now (debits .exit)) (length (now (vd .entry))) r ⌝ }
 {
@@ -83,7 +83,7 @@ fn floor_row(
 }
 
 // All floors. wants and lefts come in as zeros.
-pub fn floors(
+pub(crate) fn floors(
     vc: &[i64],
     debits: &[u64],
     w: u64,

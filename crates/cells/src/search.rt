@@ -32,7 +32,7 @@ fn most_wanting(marks: &[u64], wants: &[u64], columns: &[u64], i: usize) -> usiz
 }
 
 // Visits row i, which is open: finds it one more mark, or shows that there is none to be had.
-pub fn visit_row(
+pub(crate) fn visit_row(
     marks: &mut [u64],
     wants: &mut [u64],
     rows: &mut [u64],
@@ -69,7 +69,7 @@ pub fn visit_row(
 }
 
 // Visits column j, which is open and wants no mark: has it give up a mark whose row finds another, or shows that there is none such.
-pub fn visit_column(
+pub(crate) fn visit_column(
     marks: &mut [u64],
     wants: &mut [u64],
     rows: &mut [u64],
@@ -112,7 +112,7 @@ fn reopen(all: &mut [u64])
 }
 
 // Gives every row and every column the marks that it wants. Only broken cells are marked.
-pub fn place(
+pub(crate) fn place(
     marks: &mut [u64],
     lacks: &mut [u64],
     wants: &mut [u64],

@@ -9,7 +9,7 @@ ghost use Rattle.monthfile.specs.Passing.{Passes, atEnd, several};
 use format::Scanned;
 
 // The end of a line, of names or of values.
-pub fn line_end(text: &[u8], i: usize) -> Scanned
+pub(crate) fn line_end(text: &[u8], i: usize) -> Scanned
     requires { ⌜ i ≤ length (now text) ⌝ }
     ensures { λ r. ⌜ Passes (now (text .entry)) i atEnd at r ⌝ }
 {
@@ -55,7 +55,7 @@ fn last(text: &[u8], i: usize) -> Scanned
 }
 
 // A line of values with so many commas.
-pub fn line(text: &[u8], i: usize, commas: u16) -> Scanned
+pub(crate) fn line(text: &[u8], i: usize, commas: u16) -> Scanned
     requires { ⌜ i ≤ length (now text) ⌝ }
     ensures { λ r. ⌜ Passes (now (text .entry)) i (inValue fresh commas) at r ⌝ }
 {
@@ -78,7 +78,7 @@ fn starts_line(b: u8) -> bool
     (b == 45) | ((48 <= b) & (b < 58))
 }
 
-pub fn line_here(text: &[u8], i: usize) -> bool
+pub(crate) fn line_here(text: &[u8], i: usize) -> bool
     requires { ⌜ i ≤ length (now text) ⌝ }
     ensures { λ r. ⌜ r ≡ lineHere (drop i (now (text .entry))) ⌝ }
 {
@@ -89,7 +89,7 @@ pub fn line_here(text: &[u8], i: usize) -> bool
 }
 
 // Lines of a block, as many as there are; Full where one begins that there is no room for.
-pub fn lines(text: &[u8], i: usize, commas: u16, room: usize) -> Scanned
+pub(crate) fn lines(text: &[u8], i: usize, commas: u16, room: usize) -> Scanned
     requires { ⌜ i ≤ length (now text) ⌝ }
     ensures { λ r. ⌜ Passes (now (text .entry)) i (several room commas) at r ⌝ }
 {

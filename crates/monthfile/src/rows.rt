@@ -15,7 +15,7 @@ pub struct Lines {
     pub next: usize,
 }
 
-pub fn agents_at(text: &[u8], at: usize, agents: &mut [AgentLine]) -> Lines
+pub(crate) fn agents_at(text: &[u8], at: usize, agents: &mut [AgentLine]) -> Lines
     requires { ⌜ at ≤ length (now text) ⌝ }
     ensures { λ r. ⌜ Filled asRead (now (text .entry)) at (length (now (agents .entry))) (length Table.agents)
         (now (agents .entry)) (now (agents .exit)) (r .count) (r .next) ⌝ }
@@ -35,7 +35,7 @@ pub fn agents_at(text: &[u8], at: usize, agents: &mut [AgentLine]) -> Lines
     Lines { count: n, next: i }
 }
 
-pub fn users_at(text: &[u8], at: usize, users: &mut [UserLine]) -> Lines
+pub(crate) fn users_at(text: &[u8], at: usize, users: &mut [UserLine]) -> Lines
     requires { ⌜ at ≤ length (now text) ⌝ }
     ensures { λ r. ⌜ Filled asRead (now (text .entry)) at (length (now (users .entry))) (length Table.users)
         (now (users .entry)) (now (users .exit)) (r .count) (r .next) ⌝ }
@@ -55,7 +55,7 @@ pub fn users_at(text: &[u8], at: usize, users: &mut [UserLine]) -> Lines
     Lines { count: n, next: i }
 }
 
-pub fn points_at(text: &[u8], at: usize, points: &mut [PointLine]) -> Lines
+pub(crate) fn points_at(text: &[u8], at: usize, points: &mut [PointLine]) -> Lines
     requires { ⌜ at ≤ length (now text) ⌝ }
     ensures { λ r. ⌜ Filled asRead (now (text .entry)) at (length (now (points .entry))) (length Table.points)
         (now (points .entry)) (now (points .exit)) (r .count) (r .next) ⌝ }

@@ -115,7 +115,7 @@ fn smaller(a: usize, b: usize) -> usize
 }
 
 // The file at a position; a position past the end counts as the end.
-pub fn scan(text: &[u8], from: usize, slices: Slices) -> Scanned
+pub(crate) fn scan(text: &[u8], from: usize, slices: Slices) -> Scanned
     ensures { λ r. ⌜ (r ≡ scanAt slices (now (text .entry)) from) × Within (now (text .entry)) 0 r ⌝ }
 {
     file(text, smaller(from, text.len()), slices)

@@ -59,7 +59,7 @@ fn size(text: &[u8], i: usize) -> Scanned
     Scanned::Faulty(i)
 }
 
-pub fn value(text: &[u8], i: usize) -> Scanned
+pub(crate) fn value(text: &[u8], i: usize) -> Scanned
     requires { ⌜ i ≤ length (now text) ⌝ }
     ensures { λ r. ⌜ ((k : ℕ) → Passes (now (text .entry)) i (inValue fresh k) (inValue nought k) r) ⌝ }
 {

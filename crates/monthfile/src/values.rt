@@ -103,7 +103,7 @@ fn past_value(text: &[u8], at: usize, left: usize) -> usize
 }
 
 // Past a line of names.
-pub fn past_names(text: &[u8], at: usize, names: &[u8]) -> usize
+pub(crate) fn past_names(text: &[u8], at: usize, names: &[u8]) -> usize
     requires { ⌜ at ≤ length (now text) ⌝ }
     ensures { λ r. ⌜ LeftAt (now (text .entry)) (pastEnd (drop (length (now (names .entry))) (drop at (now (text .entry))))) r ⌝ }
 {
@@ -111,7 +111,7 @@ pub fn past_names(text: &[u8], at: usize, names: &[u8]) -> usize
 }
 
 // A line of as many values as the row has, each with the byte after it; the place after it is answered.
-pub fn line_at(text: &[u8], at: usize, row: &mut [i64]) -> usize
+pub(crate) fn line_at(text: &[u8], at: usize, row: &mut [i64]) -> usize
     requires { ⌜ at ≤ length (now text) ⌝ }
     ensures { λ r. ⌜ LineAt (now (text .entry)) at (length (now (row .entry))) (now (row .exit)) r ⌝ }
 {

@@ -204,7 +204,7 @@ fn cells(month: i64, agents: usize, users: usize, table: &[i64], told: &[u8]) ->
 }
 
 // One row for each point, each user and each payee, ONS last; the balance; and the table of cells.
-pub fn month(
+pub(crate) fn month(
     month: i64,
     lines: &[PointLine],
     point_rows: &[PointRow],

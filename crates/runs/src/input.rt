@@ -5,7 +5,7 @@ ghost use Rattle.runs.specs.Runs.{InputWithin};
 use libc::STDIN_FILENO;
 
 // One byte more than the program takes, so that an input that is too long fills it.
-pub fn buffer() -> [u8; 32769]
+pub(crate) fn buffer() -> [u8; 32769]
     ensures { λ r. ⌜ 32769 ≡ length r ⌝ }
 {
     [0u8; 32769]
@@ -19,7 +19,7 @@ pub enum Input {
 }
 
 // `told` is what is said of a read that fails.
-pub fn read_all(text: &mut [u8], told: &[u8]) -> Input
+pub(crate) fn read_all(text: &mut [u8], told: &[u8]) -> Input
     ensures { λ r. ⌜ InputWithin (length (now (text .exit))) r ⌝ }
 {
     let most = text.len();

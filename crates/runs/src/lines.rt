@@ -6,7 +6,7 @@ ghost use lib.ListN.{length};
 use libc::STDOUT_FILENO;
 
 // Writes a whole line; `told` is what is said of a write that fails.
-pub fn write(text: &[u8], told: &[u8]) -> bool {
+pub(crate) fn write(text: &[u8], told: &[u8]) -> bool {
     if io::write_all(STDOUT_FILENO, text) {
         return true;
     }
@@ -15,7 +15,7 @@ pub fn write(text: &[u8], told: &[u8]) -> bool {
 }
 
 // Each of these puts its text at the place `at` of a line, and answers the place after it.
-pub fn put(line: &mut [u8], at: usize, text: &[u8]) -> usize
+pub(crate) fn put(line: &mut [u8], at: usize, text: &[u8]) -> usize
     requires { ⌜ at + length (now text) ≤ length (now line) ⌝ }
     ensures { λ r. ⌜ r ≡ at + length (now (text .entry)) ⌝ }
 {
@@ -28,7 +28,7 @@ pub fn put(line: &mut [u8], at: usize, text: &[u8]) -> usize
     at + n
 }
 
-pub fn put_number(line: &mut [u8], at: usize, n: u64) -> usize
+pub(crate) fn put_number(line: &mut [u8], at: usize, n: u64) -> usize
     requires { ⌜ at + 20 ≤ length (now line) ⌝ }
     ensures { λ r. ⌜ r ≤ at + 20 ⌝ }
 {
@@ -38,14 +38,14 @@ pub fn put_number(line: &mut [u8], at: usize, n: u64) -> usize
 }
 
 // An amount without its sign, also that of the least.
-pub fn size(x: i64) -> u64 {
+pub(crate) fn size(x: i64) -> u64 {
     if x < 0 {
         return (-(x + 1)) as u64 + 1;
     }
     x as u64
 }
 
-pub fn put_amount(line: &mut [u8], at: usize, x: i64) -> usize
+pub(crate) fn put_amount(line: &mut [u8], at: usize, x: i64) -> usize
     requires { ⌜ at + 21 ≤ length (now line) ⌝ }
     ensures { λ r. ⌜ r ≤ at + 21 ⌝ }
 {
@@ -57,7 +57,7 @@ pub fn put_amount(line: &mut [u8], at: usize, x: i64) -> usize
 }
 
 // The line of a refusal: at most 50 bytes.
-pub fn put_refused(line: &mut [u8], number: u64, place: u64) -> usize
+pub(crate) fn put_refused(line: &mut [u8], number: u64, place: u64) -> usize
     requires { ⌜ 50 ≤ length (now line) ⌝ }
     ensures { λ r. ⌜ r ≤ 50 ⌝ }
 {
@@ -68,7 +68,7 @@ pub fn put_refused(line: &mut [u8], number: u64, place: u64) -> usize
     put(line, d, b"\n")
 }
 
-pub fn refused(number: u64, place: u64, told: &[u8]) -> bool {
+pub(crate) fn refused(number: u64, place: u64, told: &[u8]) -> bool {
     let mut line = [0u8; 50];
     let n = put_refused(&mut line, number, place);
     write(&line[..n], told)

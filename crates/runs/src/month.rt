@@ -172,7 +172,7 @@ fn close_amounts(
 }
 
 // Closes a month and prints of it what is asked for.
-pub fn close(
+pub(crate) fn close(
     print: Print,
     ledger: Ledger,
     held: &mut [i64],

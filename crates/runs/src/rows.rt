@@ -71,7 +71,7 @@ fn put_row(
 }
 
 // `told` is what is said of a write that fails.
-pub fn row(
+pub(crate) fn row(
     month: i64,
     item: &[u8],
     payee: Payee,

@@ -52,7 +52,7 @@ fn row(month: i64, payee: Payee, cents: &[i64], told: &[u8]) -> bool {
     true
 }
 
-pub fn month(
+pub(crate) fn month(
     month: i64,
     agents: usize,
     users: usize,

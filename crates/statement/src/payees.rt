@@ -64,7 +64,12 @@ fn work_out(
 }
 
 // Writes the rows of a month that breaks no limit, `debits` being the sum of what its users owe. Answers the balance.
-pub fn state_payees(debits: i64, line: MonthLine, agents: &[AgentLine], out: &mut [PayeeRow]) -> i64
+pub(crate) fn state_payees(
+    debits: i64,
+    line: MonthLine,
+    agents: &[AgentLine],
+    out: &mut [PayeeRow],
+) -> i64
     requires { ⌜ Payable debits line (map agentOf (now agents)) × (length (now out) ≡ length (now agents) + 1) ⌝ }
     ensures { λ r. ⌜ StatesPayees debits line (map agentOf (now (agents .entry))) r (now (out .exit)) ⌝ }
 {

@@ -24,7 +24,7 @@ fn row(users: &[UserLine], p: Point) -> PointRow
 }
 
 // Writes a row for each point.
-pub fn rows(users: &[UserLine], points: &[PointLine], out: &mut [PointRow])
+pub(crate) fn rows(users: &[UserLine], points: &[PointLine], out: &mut [PointRow])
     requires { ⌜ InRange (now points) × (length (now out) ≡ length (now points)) ⌝ }
     ensures { λ _. ⌜ now (out .exit) ≡ map (pointRow (map userOf (now (users .entry)))) (map pointOf (now (points .entry))) ⌝ }
 {

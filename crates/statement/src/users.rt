@@ -81,7 +81,7 @@ fn work_out(
 }
 
 // Writes the rows of a month that breaks no limit: s is what the scan of its points has found, pv the sum of all pv.
-pub fn state_users(
+pub(crate) fn state_users(
     users: &[UserLine],
     s: Sums,
     bills: Bills,
