@@ -68,8 +68,13 @@ int64_t rateio_share(int64_t p, int64_t before, int64_t through, int64_t w);
  *
  * A month file has four blocks, each a line of names and lines of values: one line of month,ons; then any count of lines
  * of agent,pb,pv,afs,rfs,pa,ret; of user,kind,ret; and of at,tp,tf,dp,df,mp,mf,vp,vf. Values are parted by commas, and
- * every line ends in LF. A value is 1 to 18 digits with no leading zero but in 0 itself, after one minus sign if it is
- * negative. Whether values lie in their limits is not looked at. Each byte is looked at once.
+ * every line ends in LF or in CR LF, each for itself. A value is 1 to 18 digits with no leading zero but in 0 itself,
+ * after one minus sign if it is negative. Whether values lie in their limits is not looked at. Each byte is looked at
+ * once.
+ *
+ * Where a line may end a CR is in order, so the place of a lone one is the byte after it that is not LF, or the text's
+ * length; anywhere else the place is the CR's. With CRs put before LFs that had none the answer stays RATEIO_CHECK_FILES,
+ * or the place moves by the CRs put before it (a text grown over the limit apart).
  */
 int64_t rateio_check(const uint8_t *text, size_t length);
 

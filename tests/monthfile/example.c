@@ -12,6 +12,12 @@
 #define USERS "user,kind,ret\n1,2,0\n"
 #define POINTS "at,tp,tf,dp,df,mp,mf,vp,vf\n1,1000,500,0,0,3,2,3,2\n"
 #define MONTH_FILE NAMES_AND_MONTH AGENTS USERS POINTS
+/* The same file as an office machine saves it. */
+#define OFFICE_NAMES_AND_MONTH "month,ons\r\n202407,100\r\n"
+#define OFFICE_AGENTS "agent,pb,pv,afs,rfs,pa,ret\r\n1,1000,0,0,0,0,4\r\n"
+#define OFFICE_USERS "user,kind,ret\r\n1,2,0\r\n"
+#define OFFICE_POINTS "at,tp,tf,dp,df,mp,mf,vp,vf\r\n1,1000,500,0,0,3,2,3,2\r\n"
+#define OFFICE_FILE OFFICE_NAMES_AND_MONTH OFFICE_AGENTS OFFICE_USERS OFFICE_POINTS
 
 static void look(const char *what, const char *text, size_t length)
 {
@@ -37,6 +43,8 @@ int main(void)
 {
     look_over("one file", MONTH_FILE);
     look_over("two files", MONTH_FILE MONTH_FILE);
+    look_over("in CR LF", OFFICE_FILE);
+    look_over("in CR LF and in LF", OFFICE_FILE NAMES_AND_MONTH OFFICE_AGENTS USERS OFFICE_POINTS);
     look_over("no points", NAMES_AND_MONTH AGENTS USERS "at,tp,tf,dp,df,mp,mf,vp,vf\n");
     look_over("no text", "");
     look_over("no last LF", "month,ons\n202407,100");
@@ -44,7 +52,10 @@ int main(void)
     look_over("leading zero", "month,ons\n0202407,100\n");
     look_over("19 digits", "month,ons\n202407,1234567890123456789\n");
     look_over("a second month line", NAMES_AND_MONTH "202408,100\n");
-    look_over("CR LF", "month,ons\r\n202407,100\r\n");
+    look_over("a lone CR", "month,ons\r202407,100\r");
+    look_over("CR CR LF", "month,ons\r\r\n202407,100\r\n");
+    look_over("CR in a line", "month,ons\r\n202407\r,100\r\n");
+    look_over("no last CR LF", "month,ons\r\n202407,100");
     look_over("byte order mark", "\xef\xbb\xbf" MONTH_FILE);
     look_over("a line after the file", MONTH_FILE "\n");
     look("a byte 0", "month\0ons\n", 10);

@@ -8,7 +8,7 @@ use lib.Dec.{eqb}
 use borrow.Author.Tests.{eqb-true}
 use Rattle.format.specs.Bytes.{m}
 use Rattle.format.specs.Blocks.{one, any, upTo, free}
-use Rattle.format.specs.Grammar.{more, line, blocksText, File, fileText, Files, last, then}
+use Rattle.format.specs.Grammar.{more, line, Ends, blocksText, File, fileText, Files, last, then}
 use Rattle.format.specs.Machine.{Item, byte, end, lines, format, State, stuck, at, value, enter, step, ended, final, endsBefore, start, onward}
 use Rattle.format.specs.Machine.{run, From, Accepted}
 use Rattle.format.proofs.Live.{not-both, dead}
@@ -83,9 +83,9 @@ unfolding run
 nothing s h = h
 
 -- a further file begins as a first one does
-pub begins-m : (f : File) (t : List ℕ) → (u : List ℕ) × (fileText f ++ t ≡ m ∷ u)
+pub begins-m : (es : Ends) (f : File) (t : List ℕ) → (u : List ℕ) × (fileText es f ++ t ≡ m ∷ u)
 unfolding more line blocksText
-begins-m f t = (_, refl)
+begins-m es f t = (_, refl)
 
 started : onward (start free) m ≡ step (start free) m
 unfolding onward format step line
@@ -98,18 +98,19 @@ further u h s e = subst (λ (x : State). On x u) (started ∙ sym (again s e)) h
     again : (s : State) → final s ≡ true → onward s m ≡ step (start free) m
     again s e = beyond s m (rw e)
 
-rest-of : (f : File) (t : List ℕ) → Accepted (fileText f ++ t) → Rest (fileText f ++ t)
-rest-of f t h =
-    let b = begins-m f t in
+rest-of : (es : Ends) (f : File) (t : List ℕ) → Accepted (fileText es f ++ t) → Rest (fileText es f ++ t)
+rest-of es f t h =
+    let b = begins-m es f t in
     subst Rest (sym (b .1)) (further (b .0) (subst Accepted (b .1) h))
 
 after : (t : List ℕ) → Files t → Accepted t × Rest t
-after t (last f a) =
-    let h : Accepted (fileText f ++ []) = joined (fileText f) [] (start free) (takes free f a) nothing in
-    (subst Accepted (append-nil (fileText f)) h, subst Rest (append-nil (fileText f)) (rest-of f [] h))
-after t (then f a u fs) =
-    let h : Accepted (fileText f ++ u) = joined (fileText f) u (start free) (takes free f a) (after u fs .1) in
-    (h, rest-of f u h)
+after t (last es f a) =
+    let v : List ℕ = fileText es f in
+    let h : Accepted (v ++ []) = joined v [] (start free) (takes free es f a) nothing in
+    (subst Accepted (append-nil v) h, subst Rest (append-nil v) (rest-of es f [] h))
+after t (then es f a u fs) =
+    let h : Accepted (fileText es f ++ u) = joined (fileText es f) u (start free) (takes free es f a) (after u fs .1) in
+    (h, rest-of es f u h)
 
 -- a file's text and what follows it
 abbrev More : List ℕ → Type 0
@@ -117,8 +118,8 @@ More u = (u ≡ []) ⊎ Files u
 
 files : (v u : List ℕ) → OneFile free v → More u → Files (v ++ u)
 files v u o (inl e) =
-    subst Files (sym (o .is) ∙ sym (append-nil v) ∙ ap (λ (x : List ℕ). v ++ x) (sym e)) (last (o .file) (o .fits))
-files v u o (inr fs) = subst Files (ap (λ (x : List ℕ). x ++ u) (sym (o .is))) (then (o .file) (o .fits) u fs)
+    subst Files (sym (o .is) ∙ sym (append-nil v) ∙ ap (λ (x : List ℕ). v ++ x) (sym e)) (last (o .ends) (o .file) (o .fits))
+files v u o (inr fs) = subst Files (ap (λ (x : List ℕ). x ++ u) (sym (o .is))) (then (o .ends) (o .file) (o .fits) u fs)
 
 -- the rest of a file, and files after it
 record Split (s : State) (t : List ℕ) : Type 0 where

@@ -9,7 +9,7 @@ use lib.ListN.{length, take, drop, getD, length-append}
 use lib.Seq.{drop-append-seam}
 use Rattle.format.specs.Bytes.{startsLine}
 use Rattle.format.specs.Blocks.{Slices, free, blocks}
-use Rattle.format.specs.Grammar.{File, fileText, Fits}
+use Rattle.format.specs.Grammar.{Ends, File, fileText, Fits}
 use Rattle.format.specs.Machine.{State, start}
 use Rattle.format.specs.Language.{Begins, Place, Follows, Stands}
 use Rattle.format.specs.Values.{readBlocks, fileOf}
@@ -21,7 +21,7 @@ use Rattle.format.proofs.Table.{sound-format}
 use Rattle.format.proofs.Slices.{too-many}
 use Rattle.format.proofs.Places.{Later, one-place, no-place, same-place}
 use Rattle.format.proofs.Sound.{sound}
-use Rattle.format.proofs.Values.{values-back}
+use Rattle.format.proofs.Values.{values-back, one-reading}
 use Rattle.format.proofs.Scans.{Rests, rests-stands, Claim, claim}
 use Rattle.format.proofs.Wide.{wide, wide-start, Longer, Wider, wider}
 
@@ -36,12 +36,14 @@ module _ (r : Slices) (t : List ℕ) (from : ℕ) where
   read-whole : (n : ℕ) → Claim (start r) s k (Whole n) → Read r t from (fileOf (readBlocks (blocks r) s .got)) n
   read-whole n c =
       let o = sound r (c .rests .first) (c .rests .whole) in
-      let e : s ≡ fileText (o .file) ++ c .rests .rest = c .rests .is ∙ ap (λ (x : List ℕ). x ++ c .rests .rest) (o .is) in
+      let e : s ≡ fileText (o .ends) (o .file) ++ c .rests .rest = c .rests .is ∙ ap (λ (x : List ℕ). x ++ c .rests .rest) (o .is) in
       let v : fileOf (readBlocks (blocks r) s .got) ≡ o .file =
-      ap (λ (x : List ℕ). fileOf (readBlocks (blocks r) x .got)) e ∙ values-back r (o .file) (c .rests .rest) (o .fits) (c .rests .follows) in
+      ap (λ (x : List ℕ). fileOf (readBlocks (blocks r) x .got)) e
+      ∙ values-back r (o .ends) (o .file) (c .rests .rest) (o .fits) (c .rests .follows) in
       subst (λ (f : File). Read r t from f n) (sym v)
       (record {
         fits = o .fits;
+        ends = o .ends;
         rest = c .rests .rest;
         follows = c .rests .follows;
         is = e;
@@ -88,7 +90,7 @@ module _ (r : Slices) (t : List ℕ) (from : ℕ) where
               (λ fit. c .through h
               (record {
                 rest = w .rest;
-                whole = record { file = x .file; rest = x .rest; fits = fit; follows = x .follows; is = x .is };
+                whole = record { file = x .file; ends = x .ends; rest = x .rest; fits = fit; follows = x .follows; is = x .is };
               }));
         };
       }
@@ -124,13 +126,16 @@ module _ (r : Slices) (t : List ℕ) (from : ℕ) where
 
   -- what is read stands there
   stands : (f : File) (n : ℕ) → Read r t from f n → Stands r s
-  stands f n x = record { file = f; rest = x .rest; fits = x .fits; follows = x .follows; is = x .is }
+  stands f n x = record { file = f; ends = x .ends; rest = x .rest; fits = x .fits; follows = x .follows; is = x .is }
 
-  same-file : (f g : File) (n o : ℕ) → Read r t from f n → Read r t from g o → f ≡ g
-  same-file f g n o x y =
-      sym (values-back r f (x .rest) (x .fits) (x .follows))
-      ∙ ap (λ (z : List ℕ). fileOf (readBlocks (blocks r) z .got)) (sym (x .is) ∙ y .is)
-      ∙ values-back r g (y .rest) (y .fits) (y .follows)
+  -- where a file is read, one text of it stands and what follows is what is left
+  same-read : (f g : File) (n o : ℕ) → Read r t from f n → Read r t from g o → (f ≡ g) × (n ≡ o)
+  same-read f g n o x y =
+      let e = one-reading r (x .ends) (y .ends) f g (x .rest) (y .rest) (x .fits) (y .fits) (x .follows) (y .follows) (sym (x .is) ∙ y .is) in
+      let a : length s ≡ length (fileText (x .ends) f) + length (x .rest) = ap length (x .is) ∙ length-append (fileText (x .ends) f) (x .rest) in
+      let b : length s ≡ length (fileText (y .ends) g) + length (y .rest) = ap length (y .is) ∙ length-append (fileText (y .ends) g) (y .rest) in
+      let l : length (x .rest) ≡ length (y .rest) = ap length (e .1) in
+      (e .0, omega (arith, x .next-is, y .next-is))
 
   -- no byte is 11 and 12 at once
   not-both : (q : ℕ) → Place (Stands free) s q → q < length s → Begins (Exceeds r) (take (suc q) s) → ⊥
@@ -145,9 +150,8 @@ module _ (r : Slices) (t : List ℕ) (from : ℕ) where
   -- PAPER 01'S WORDS LEAVE ONE ANSWER
   pub one-answer : (x y : ReadingAnswer) → Says r t from x → Says r t from y → x ≡ y
   one-answer (accepted f n) (accepted g o) c d =
-      let e = same-file f g n o c d in
-      let h : n ≡ o = c .next-is ∙ ap (λ (z : File). k + length (fileText z)) e ∙ sym (d .next-is) in
-      ap (λ (z : File). accepted z n) e ∙ ap (accepted g) h
+      let e = same-read f g n o c d in
+      ap (λ (z : File). accepted z n) (e .0) ∙ ap (accepted g) (e .1)
   one-answer (accepted f n) (refused c q) x y = absurd (no-place (Stands r) s (y .past) (y .first) (stands f n x))
   one-answer (refused c q) (accepted f n) x y = absurd (no-place (Stands r) s (x .past) (x .first) (stands f n y))
   one-answer (refused c q) (refused d o) x y =
@@ -160,22 +164,24 @@ module _ (r : Slices) (t : List ℕ) (from : ℕ) where
   pub reading-is : (x : ReadingAnswer) → (reading r t from ≡ x) ↔ Says r t from x
   reading-is x = (λ e. subst (Says r t from) e reads, λ c. one-answer (reading r t from) x reads c)
 
--- THE ROUND TRIP: wherever the text of a file stands that the slices take, and the text ends after it or goes on with an `m`, that file is
--- read, and the next position is the first byte after it
+-- THE ROUND TRIP: wherever a text of a file stands that the slices take, its lines ended in LF or CR LF in any way, and the text ends after
+-- it or goes on with an `m`, that file is read, and the next position is the first byte after it
 pub round-trip :
-    (r : Slices) (f : File) (before after : List ℕ)
+    (r : Slices) (es : Ends) (f : File) (before after : List ℕ)
     → Fits r f
     → Follows after
-    → reading r (before ++ (fileText f ++ after)) (length before) ≡ accepted f (length before + length (fileText f))
-round-trip r f before after x e =
-    let t : List ℕ = before ++ (fileText f ++ after) in
-    let n : length t ≡ length before + length (fileText f ++ after) = length-append before (fileText f ++ after) in
+    → reading r (before ++ (fileText es f ++ after)) (length before) ≡ accepted f (length before + length (fileText es f))
+round-trip r es f before after x e =
+    let v : List ℕ = fileText es f in
+    let t : List ℕ = before ++ (v ++ after) in
+    let n : length t ≡ length before + length (v ++ after) = length-append before (v ++ after) in
     let h : length before ≡ min (length before) (length t) = omega arith in
-    reading-is r t (length before) (accepted f (length before + length (fileText f))) .1
+    reading-is r t (length before) (accepted f (length before + length v)) .1
     (record {
       fits = x;
+      ends = es;
       rest = after;
       follows = e;
-      is = drop-append-seam before (fileText f ++ after);
-      next-is = ap (λ (k : ℕ). k + length (fileText f)) h;
+      is = drop-append-seam before (v ++ after);
+      next-is = ap (λ (k : ℕ). k + length v) h;
     })

@@ -1,11 +1,12 @@
--- A state with its items changed: what a byte of a value does, and what the tests see, does not depend on the items. Assumes nothing.
+-- A state with its items changed, but for an LF after a CR: what a byte of a value does, and what the tests see, does not depend on the
+-- items. Assumes nothing.
 use Prim.Native.Nat.{ℕ, zero, suc, _+_}
-use mathlib.Core.Path.{_≡_, refl}
+use mathlib.Core.Path.{_≡_, refl, ap, sym}
 use mathlib.Core.Bool.{Bool, true, false, cond}
-use mathlib.Core.List.{List}
+use mathlib.Core.List.{List, _∷_}
 use lib.Dec.{ltb, eqb}
-use Rattle.format.specs.Bytes.{lf, comma, minus, isDigit, isLead}
-use Rattle.format.specs.Machine.{Item, Part, fresh, signed, nought, digits, State, stuck, at, value, isStuck, lead, ends, inValue, ended, final}
+use Rattle.format.specs.Bytes.{lf, cr, comma, minus, isDigit, isLead}
+use Rattle.format.specs.Machine.{Item, byte, Part, fresh, signed, nought, digits, State, stuck, at, value, isStuck, lead, ends, inValue, ended, final}
 
 abbrev pub with : (List Item → List Item) → State → State
 with g stuck = stuck
@@ -28,12 +29,14 @@ module _ (g : List Item → List Item) where
   with-cond false x y x' y' d e = e
 
   -- a byte of a value leaves the items as they are
-  module _ (b : ℕ) where
+  module _ (fed : (f : List Item) → g (byte lf ∷ f) ≡ byte lf ∷ g f) (b : ℕ) where
     with-lead : (k : ℕ) (f : List Item) → lead k (g f) b ≡ with g (lead k f b)
     with-lead k f = with-cond (isLead b) (value (digits 1) k f) stuck _ _ refl refl
 
     pub with-ends : (k : ℕ) (f : List Item) → ends k (g f) b ≡ with g (ends k f b)
-    with-ends zero f = with-cond (eqb b lf) (at f) stuck _ _ refl refl
+    with-ends zero f =
+        with-cond (eqb b lf) (at f) (cond (eqb b cr) (at (byte lf ∷ f)) stuck) _ _ refl
+        (with-cond (eqb b cr) (at (byte lf ∷ f)) stuck _ _ (ap at (sym (fed f))) refl)
     with-ends (suc k) f = with-cond (eqb b comma) (value fresh k f) stuck _ _ refl refl
 
     pub with-value : (p : Part) (k : ℕ) (f : List Item) → inValue p k (g f) b ≡ with g (inValue p k f b)

@@ -60,12 +60,13 @@ module _ (n : ℕ) where
   roomy-less (lines (upTo r) k ∷ f) a = (omega (arith, a .0), roomy-less f (a .1))
 
 -- with every byte one line less
-roomy-kept : (n : ℕ) → Kept (Roomy (suc n)) (Roomy n)
-roomy-kept n =
+roomy-kept : (n b : ℕ) → Kept (Roomy (suc n)) (Roomy n) b
+roomy-kept n b =
     record {
       tail = roomy-tail (suc n);
       so = roomy-less n;
       less = λ r k f a. (omega (arith, a .0), roomy-less n f (a .1));
+      fed = λ e f a. a;
     }
 
 -- where there is room for a line, none is too many
@@ -91,7 +92,7 @@ never-full s k [] a q e = by (final s) e
     by false e = let z : _≡_ {A = ℕ} 0 1 = cc in omega arith
 never-full s k (b ∷ t) a q e =
     by (endsBefore s b) (isStuck (step s b)) (rw (roomy-enough (length t) b s a) at e)
-    (never-full (step s b) (k + 1) t (keep-step (Roomy (suc (length t))) (Roomy (length t)) (roomy-kept (length t)) b s a) q)
+    (never-full (step s b) (k + 1) t (keep-step (Roomy (suc (length t))) (Roomy (length t)) b (roomy-kept (length t) b) s a) q)
   where
     by : (o d : Bool) → cond o (Whole k) (cond d (Faulty k) (scan (step s b) (k + 1) t)) ≡ Full q → (scan (step s b) (k + 1) t ≡ Full q → ⊥) → ⊥
     by true d e r = let z : _≡_ {A = ℕ} 0 1 = cc in omega arith

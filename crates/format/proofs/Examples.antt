@@ -4,17 +4,17 @@ use Prim.Native.String.{String, _++_}
 use mathlib.Core.Path.{_≡_, refl}
 use mathlib.Core.List.{[], _∷_, map}
 use lib.IntN.{ℤ, pos, negsuc}
-use Rattle.format.specs.Bytes.{bytes}
+use Rattle.format.specs.Bytes.{bytes, LF, CRLF}
 use Rattle.format.specs.Blocks.{slices}
 use Rattle.format.specs.Decimal.{shown}
-use Rattle.format.specs.Grammar.{more, line, linesText, blocksText, fileText}
+use Rattle.format.specs.Grammar.{more, line, allLF, linesText, blocksText, fileText}
 use Rattle.format.specs.Example.{input, values}
 use Rattle.format.specs.Machine.{format, inValue, enter, step, onward, judge, checkOf}
 use Rattle.format.specs.Values.{readDigits, readValue, readLine, readLines, readBlocks}
 use Rattle.format.specs.Reading.{scan, scanAt, ReadingAnswer, accepted, refused, reading}
 
 -- written, it is that text; read, it gives those values, and the next position is its end
-pub writes-a : fileText values ≡ bytes input
+pub writes-a : fileText allLF values ≡ bytes input
 unfolding more line linesText blocksText shown
 writes-a = refl
 
@@ -42,13 +42,61 @@ wrong-values :
 unfolding checkOf judge onward format more line inValue enter step
 wrong-values = refl
 
--- lines: a second month line at its first byte; no month line at the next names; a value too many; one too few; CR before LF; an empty line
+-- lines: a second month line at its first byte; no month line at the next names; a value too many; one too few; an empty line
 wrong-lines :
-    map check
-    ("month,ons\n1,1\n2,2\n" ∷ "month,ons\nagent," ∷ "month,ons\n1,1,1\n" ∷ "month,ons\n1\n" ∷ "month,ons\r\n" ∷ "month,ons\n\n" ∷ [])
-    ≡ pos 14 ∷ pos 10 ∷ pos 13 ∷ pos 11 ∷ pos 9 ∷ pos 10 ∷ []
+    map check ("month,ons\n1,1\n2,2\n" ∷ "month,ons\nagent," ∷ "month,ons\n1,1,1\n" ∷ "month,ons\n1\n" ∷ "month,ons\n\n" ∷ [])
+    ≡ pos 14 ∷ pos 10 ∷ pos 13 ∷ pos 11 ∷ pos 10 ∷ []
 unfolding checkOf judge onward format more line inValue enter step
 wrong-lines = refl
+
+-- LINE ENDS (paper 02, Q-3): the same file with CR LF after every line, and after some of them
+abbrev office : String
+office =
+    "month,ons\r\n202407,100\r\n"
+    ++ "agent,pb,pv,afs,rfs,pa,ret\r\n1,1000,0,0,0,0,4\r\n2,2000,30,0,0,25,0\r\n"
+    ++ "user,kind,ret\r\n1,2,0\r\n2,3,0\r\n"
+    ++ "at,tp,tf,dp,df,mp,mf,vp,vf\r\n1,1000,500,0,0,3,2,3,2\r\n2,2000,0,50,0,16,0,16,0\r\n"
+
+abbrev mixed : String
+mixed =
+    "month,ons\r\n202407,100\n"
+    ++ "agent,pb,pv,afs,rfs,pa,ret\n1,1000,0,0,0,0,4\r\n2,2000,30,0,0,25,0\n"
+    ++ "user,kind,ret\n1,2,0\n2,3,0\n"
+    ++ "at,tp,tf,dp,df,mp,mf,vp,vf\n1,1000,500,0,0,3,2,3,2\n2,2000,0,50,0,16,0,16,0\n"
+
+writes-mixed : fileText (CRLF ∷ LF ∷ LF ∷ CRLF ∷ []) values ≡ bytes mixed
+unfolding more line linesText blocksText shown
+writes-mixed = refl
+
+reads-office :
+    reading (slices 2 2 2) (bytes (office ++ mixed)) 0 ∷ reading (slices 2 2 2) (bytes (office ++ mixed)) 195 ∷ []
+    ≡ accepted values 195 ∷ accepted values 381 ∷ []
+unfolding reading scanAt scan readBlocks readLines readLine readValue readDigits format more line inValue enter step
+reads-office = refl
+
+-- where a line may end a CR is in order: a lone one is refused at the byte after it that is no LF, or at the text's length
+lone-crs :
+    map check ("month,ons\r" ∷ "month,ons\r1" ∷ "month,ons\r\r\n" ∷ "month,ons\n1,1\r2,2" ∷ "month,ons\n1,1\ragent" ∷ [])
+    ≡ pos 10 ∷ pos 10 ∷ pos 10 ∷ pos 14 ∷ pos 14 ∷ []
+unfolding checkOf judge onward format more line inValue enter step
+lone-crs = refl
+
+-- at any other place the CR is refused: in a name; before a line's last value is complete; at a line's start; after a file
+stray-crs :
+    map check
+    ("mon\rth" ∷ "month,ons\n1\r\n" ∷ "month,ons\n1,\r\n" ∷ "month,ons\n1,-\r\n" ∷ "month,ons\n\r\n" ∷ (input ++ "\r\n") ∷ (input ++ "\rmonth") ∷ [])
+    ≡ pos 3 ∷ pos 11 ∷ pos 12 ∷ pos 13 ∷ pos 10 ∷ pos 184 ∷ pos 184 ∷ []
+unfolding checkOf judge onward format more line inValue enter step
+stray-crs = refl
+
+-- a CR is no line end before the `m` of a further file, nor at the text's end
+abbrev bare : String
+bare = "month,ons\n1,1\nagent,pb,pv,afs,rfs,pa,ret\nuser,kind,ret\nat,tp,tf,dp,df,mp,mf,vp,vf"
+
+no-line-end : map check ((bare ++ "\rmonth") ∷ (bare ++ "\r") ∷ (bare ++ "\r\n") ∷ (bare ++ "\r\nmonth") ∷ [])
+    ≡ pos 82 ∷ pos 82 ∷ negsuc 0 ∷ pos 88 ∷ []
+unfolding checkOf judge onward format more line inValue enter step
+no-line-end = refl
 
 -- where the text ends too soon, its length: nothing at all, no LF after the last line, no point names; and what is no `m` after a file
 wrong-ends :

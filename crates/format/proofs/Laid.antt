@@ -3,28 +3,30 @@ use Prim.Native.Nat.{ℕ, suc, _-_}
 use mathlib.Core.Path.{_≡_, refl, ap, sym, _∙_, subst}
 use mathlib.Core.List.{List, [], _∷_, _++_, map, append-assoc}
 use native.Mathlib.Omega.{arith}
-use lib.ListN.{length}
+use lib.ListN.{length, drop}
 use lib.IntN.{ℤ}
-use Rattle.format.specs.Bytes.{lineEnd}
+use Rattle.format.specs.Bytes.{LineEnd, lineEnd}
 use Rattle.format.specs.Blocks.{Block, columns, Slices, blocks}
 use Rattle.format.specs.Decimal.{All}
-use Rattle.format.specs.Grammar.{more, line, namesOf, namesText, linesText, blocksText, LineFits, Counted, BlocksFit, File, rows, fileText}
-use Rattle.format.specs.Grammar.{Fits}
+use Rattle.format.specs.Grammar.{more, line, Ends, firstEnd, namesOf, namesText, linesText, blocksText, LineFits, Counted, BlocksFit, File, rows}
+use Rattle.format.specs.Grammar.{fileText, Fits}
 use Rattle.format.specs.Machine.{Item, byte, end, lines, laidOut, format}
 use Rattle.format.proofs.Table.{Headed, all-headed}
 
 -- a line and what follows it, entry by entry
-pub line-then : (v : List ℕ) (vs : List (List ℕ)) (x : List ℕ) → line (v ∷ vs) ++ x ≡ v ++ (more vs ++ (lineEnd ++ x))
+pub line-then :
+    (e : LineEnd) (v : List ℕ) (vs : List (List ℕ)) (x : List ℕ)
+    → line e (v ∷ vs) ++ x ≡ v ++ (more vs ++ (lineEnd e ++ x))
 unfolding line
-line-then v vs x = append-assoc (v ++ more vs) lineEnd x ∙ append-assoc v (more vs) (lineEnd ++ x)
+line-then e v vs x = append-assoc (v ++ more vs) (lineEnd e) x ∙ append-assoc v (more vs) (lineEnd e ++ x)
 
--- lines of values as the items still to come have them
-abbrev pub spell : List Item → List (List (List ℤ)) → List ℕ
-spell [] w = []
-spell (byte c ∷ f) w = c ∷ spell f w
-spell (end ∷ f) w = lineEnd ++ spell f w
-spell (lines n k ∷ f) [] = []
-spell (lines n k ∷ f) (ls ∷ w) = linesText ls ++ spell f w
+-- lines of values as the items still to come have them, with these ends
+abbrev pub spell : List Item → Ends → List (List (List ℤ)) → List ℕ
+spell [] es w = []
+spell (byte c ∷ f) es w = c ∷ spell f es w
+spell (end ∷ f) es w = lineEnd (firstEnd es) ++ spell f (drop 1 es) w
+spell (lines n k ∷ f) es [] = []
+spell (lines n k ∷ f) es (ls ∷ w) = linesText es ls ++ spell f (drop (length ls) es) w
 
 abbrev pub Spells : List Item → List (List (List ℤ)) → Type 0
 Spells [] [] = Unit {0}
@@ -35,9 +37,9 @@ Spells (lines n k ∷ f) [] = ⊥
 Spells (lines n k ∷ f) (ls ∷ w) = All (LineFits (suc k)) ls × Counted n (length ls) × Spells f w
 
 module _ (f : List Item) (w : List (List (List ℤ))) where
-  spell-names : (ns : List ℕ) → spell (map byte ns ++ f) w ≡ ns ++ spell f w
-  spell-names [] = refl
-  spell-names (c ∷ ns) = ap (λ (l : List ℕ). c ∷ l) (spell-names ns)
+  spell-names : (es : Ends) (ns : List ℕ) → spell (map byte ns ++ f) es w ≡ ns ++ spell f es w
+  spell-names es [] = refl
+  spell-names es (c ∷ ns) = ap (λ (l : List ℕ). c ∷ l) (spell-names es ns)
 
   into-names : (ns : List ℕ) → Spells f w → Spells (map byte ns ++ f) w
   into-names [] a = a
@@ -50,14 +52,15 @@ module _ (f : List Item) (w : List (List (List ℤ))) where
 abbrev to-come : Block → List Block → List Item
 to-come b bs = end ∷ lines (b .count) (columns b - 1) ∷ laidOut bs
 
-same-text : (bs : List Block) (w : List (List (List ℤ))) → BlocksFit bs w → spell (laidOut bs) w ≡ blocksText bs w
+same-text : (es : Ends) (bs : List Block) (w : List (List (List ℤ))) → BlocksFit bs w → spell (laidOut bs) es w ≡ blocksText es bs w
 unfolding blocksText line
-same-text [] w a = refl
-same-text (b ∷ bs) [] a = absurd a
-same-text (b ∷ bs) (ls ∷ w) a =
-    spell-names (to-come b bs) (ls ∷ w) (namesOf b)
-    ∙ sym (append-assoc (namesOf b) lineEnd (linesText ls ++ spell (laidOut bs) w))
-    ∙ ap (λ (l : List ℕ). namesText b ++ (linesText ls ++ l)) (same-text bs w (a .2))
+same-text es [] w a = refl
+same-text es (b ∷ bs) [] a = absurd a
+same-text es (b ∷ bs) (ls ∷ w) a =
+    let after : Ends = drop (length ls) (drop 1 es) in
+    spell-names (to-come b bs) (ls ∷ w) es (namesOf b)
+    ∙ sym (append-assoc (namesOf b) (lineEnd (firstEnd es)) (linesText (drop 1 es) ls ++ spell (laidOut bs) after w))
+    ∙ ap (λ (l : List ℕ). namesText (firstEnd es) b ++ (linesText (drop 1 es) ls ++ l)) (same-text after bs w (a .2))
 
 spells-fit : (bs : List Block) (w : List (List (List ℤ))) → All Headed bs → BlocksFit bs w → Spells (laidOut bs) w
 spells-fit [] [] h a = tt
@@ -76,9 +79,9 @@ fit-spells (b ∷ bs) (ls ∷ w) h a =
     (subst (λ (n : ℕ). All (LineFits n) ls) (h .0 .column) (c .0), c .1, fit-spells bs w (h .1) (c .2))
 
 -- a file's text, by the items
-pub file-text : (r : Slices) (f : File) → Fits r f → spell (format r) (rows f) ≡ fileText f
+pub file-text : (r : Slices) (es : Ends) (f : File) → Fits r f → spell (format r) es (rows f) ≡ fileText es f
 unfolding format blocksText
-file-text r f a = same-text (blocks r) (rows f) a
+file-text r es f a = same-text es (blocks r) (rows f) a
 
 pub file-spells : (r : Slices) (f : File) → Fits r f → Spells (format r) (rows f)
 unfolding format

@@ -6,7 +6,7 @@ use mathlib.Core.List.{List, [], _∷_, _++_}
 use native.Mathlib.Omega.{arith}
 use lib.Dec.{ltb, eqb}
 use borrow.Author.Tests.{eq-eqb}
-use Rattle.format.specs.Bytes.{lf, lineEnd, comma, minus, isDigit, isLead, startsLine}
+use Rattle.format.specs.Bytes.{lf, cr, LF, lineEnd, comma, minus, isDigit, isLead, startsLine}
 use Rattle.format.specs.Blocks.{one, any, upTo}
 use Rattle.format.specs.Machine.{Item, byte, end, lines, Part, fresh, signed, nought, digits, State, stuck, at, value, isStuck, lead, ends}
 use Rattle.format.specs.Machine.{inValue, enter, step, final, run, From}
@@ -42,18 +42,24 @@ pub holds-cond : (P : List Item → Type 0) (t : Bool) (x y : State) → Holds P
 holds-cond P true x y a b = a
 holds-cond P false x y a b = b
 
--- what a step makes of a property of items that their tails have too: what follows from it, also where a line has taken its room
-pub record Kept (P Q : List Item → Type 0) : Type 0 where
+-- what a step by b makes of a property of items that their tails have too: what follows from it, also where a line has taken its room, and
+-- where b is a CR and its LF is still to come
+pub record Kept (P Q : List Item → Type 0) (b : ℕ) : Type 0 where
   pub tail : (i : Item) (f : List Item) → P (i ∷ f) → P f
   pub so : (f : List Item) → P f → Q f
   pub less : (n k : ℕ) (f : List Item) → P (lines (upTo (suc n)) k ∷ f) → Q (lines (upTo n) k ∷ f)
+  pub fed : eqb b cr ≡ true → (f : List Item) → Q f → Q (byte lf ∷ f)
 
-module _ (P Q : List Item → Type 0) (c : Kept P Q) (b : ℕ) where
+module _ (P Q : List Item → Type 0) (b : ℕ) (c : Kept P Q b) where
   keep-lead : (k : ℕ) (f : List Item) → Q f → Holds Q (lead k f b)
   keep-lead k f t = holds-cond Q (isLead b) (value (digits 1) k f) stuck t tt
 
   keep-ends : (k : ℕ) (f : List Item) → Q f → Holds Q (ends k f b)
-  keep-ends zero f t = holds-cond Q (eqb b lf) (at f) stuck t tt
+  keep-ends zero f t = holds-cond Q (eqb b lf) (at f) _ t (by (eqb b cr) refl)
+    where
+      by : (q : Bool) → eqb b cr ≡ q → Holds Q (cond q (at (byte lf ∷ f)) stuck)
+      by true e = c .fed e f t
+      by false e = tt
   keep-ends (suc k) f t = holds-cond Q (eqb b comma) (value fresh k f) stuck t tt
 
   keep-value : (p : Part) (k : ℕ) (f : List Item) → Q f → Holds Q (inValue p k f b)
@@ -90,8 +96,8 @@ module _ (P Q : List Item → Type 0) (c : Kept P Q) (b : ℕ) where
 abbrev pub Good : State → Type 0
 Good s = Holds Sound s
 
-sound-kept : Kept Sound Sound
-sound-kept = record { tail = tail; so = λ f s. s; less = λ n k f s. s }
+sound-kept : (b : ℕ) → Kept Sound Sound b
+sound-kept b = record { tail = tail; so = λ f s. s; less = λ n k f s. s; fed = λ e f s. s }
   where
     tail : (i : Item) (f : List Item) → Sound (i ∷ f) → Sound f
     tail (byte c) f s = s
@@ -99,17 +105,17 @@ sound-kept = record { tail = tail; so = λ f s. s; less = λ n k f s. s }
     tail (lines n k) f s = s .1
 
 pub good-step : (b : ℕ) (s : State) → Good s → Good (step s b)
-good-step b s g = keep-step Sound Sound sound-kept b s g
+good-step b s g = keep-step Sound Sound b (sound-kept b) s g
 
 -- THE SHORTEST WAY TO AN END: zeros to the end of a line, one line where there must be one, and the names
 zeros : ℕ → List ℕ
-zeros zero = lineEnd
+zeros zero = lineEnd LF
 zeros (suc k) = comma ∷ (48 ∷ zeros k)
 
 finish : List Item → List ℕ
 finish [] = []
 finish (byte c ∷ f) = c ∷ finish f
-finish (end ∷ f) = lineEnd ++ finish f
+finish (end ∷ f) = lineEnd LF ++ finish f
 finish (lines one k ∷ f) = 48 ∷ (zeros k ++ finish f)
 finish (lines any k ∷ f) = finish f
 finish (lines (upTo n) k ∷ f) = finish f
@@ -152,6 +158,10 @@ module _ (c : ℕ) (f : List Item) where
 pub end-hit : (f : List Item) → step (at (end ∷ f)) lf ≡ at f
 unfolding step enter
 end-hit f = refl
+
+pub cr-hit : (f : List Item) → step (at (end ∷ f)) cr ≡ at (byte lf ∷ f)
+unfolding step enter
+cr-hit f = refl
 
 -- one byte back
 pub go : (b : ℕ) (s s' : State) (t : List ℕ) → step s b ≡ s' → From s' t → From s (b ∷ t)

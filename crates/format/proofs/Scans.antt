@@ -39,6 +39,7 @@ rests-stands r t = (forth, back)
         let o = sound r (c .first) (c .whole) in
         record {
           file = o .file;
+          ends = o .ends;
           rest = c .rest;
           fits = o .fits;
           follows = c .follows;
@@ -48,10 +49,10 @@ rests-stands r t = (forth, back)
     back : Stands r t → Rests (start r) t
     back c =
         record {
-          first = fileText (c .file);
+          first = fileText (c .ends) (c .file);
           rest = c .rest;
           is = c .is;
-          whole = takes r (c .file) (c .fits);
+          whole = takes r (c .ends) (c .file) (c .fits);
           follows = c .follows;
         }
 

@@ -5,26 +5,34 @@ use mathlib.Core.Bool.{Bool, true, false, cond}
 use mathlib.Core.List.{List, [], _∷_, _++_, map, append-assoc}
 use native.Mathlib.Omega.{arith}
 use lib.Dec.{leb, ltb, eqb}
-use lib.ListN.{length}
+use lib.ListN.{length, drop}
 use lib.IntN.{ℤ}
 use borrow.Author.Tests.{leb-true, ltb-true, eqb-true}
-use Rattle.format.specs.Bytes.{lf, lineEnd, comma, isDigit, is-digit, isLead, startsLine, Digit}
+use Rattle.format.specs.Bytes.{lf, cr, comma, LineEnd, LF, CRLF, lineEnd, isDigit, is-digit, isLead, startsLine, Digit}
 use Rattle.format.specs.Bytes as B
 use Rattle.format.specs.Blocks.{Count, one, any, upTo, Slices}
 use Rattle.format.specs.Decimal as D
 use Rattle.format.specs.Decimal.{text, Small, All, Numeral, Value}
-use Rattle.format.specs.Grammar.{more, line, lineText, linesText, LineFits, Counted, File, fileText, Fits}
+use Rattle.format.specs.Grammar.{more, Ends, lineText, linesText, LineFits, Counted, File, fileText, Fits}
 use Rattle.format.specs.Machine.{Item, byte, end, lines, format, Part, fresh, signed, nought, digits, State, stuck, at, value, lead, ends}
-use Rattle.format.specs.Machine.{inValue, enter, step, ended, final, start, run, From}
+use Rattle.format.specs.Machine.{lineEnds, inValue, enter, step, ended, final, start, run, From}
 use Rattle.format.proofs.Decimals.{text-of}
 use Rattle.format.proofs.Live.{not-both, both}
 use Rattle.format.proofs.Laid.{line-then, spell, Spells, file-text, spelt}
 
 -- the items still to come, written out
 record After (g : List Item) (t : List ℕ) : Type 0 where
+  eols : Ends
   said : List (List (List ℤ))
   spells : Spells g said
-  is : t ≡ spell g said
+  is : t ≡ spell g eols said
+
+-- the end of a line, and the items after it
+record Over (g : List Item) (t : List ℕ) : Type 0 where
+  eol : LineEnd
+  next : List ℕ
+  after : After g next
+  is : t ≡ lineEnd eol ++ next
 
 -- the rest of a value
 abbrev Left : Part → List ℕ → Type 0
@@ -37,12 +45,13 @@ Left (digits n) v = All Digit v × (length v ≤ 18 - n)
 record InLine (p : Part) (k : ℕ) (g : List Item) (t : List ℕ) : Type 0 where
   rest : List ℕ
   values : List ℤ
+  eol : LineEnd
   next : List ℕ
   left : Left p rest
   count : length values ≡ k
   small : All Small values
   after : After g next
-  is : t ≡ rest ++ (more (map text values) ++ (lineEnd ++ next))
+  is : t ≡ rest ++ (more (map text values) ++ (lineEnd eol ++ next))
 
 -- what a text is that leads from a state to the end of a file
 abbrev Tail : State → List ℕ → Type 0
@@ -59,21 +68,28 @@ lead-in : (b : ℕ) → isLead b ≡ true → (49 ≤ b) × (b < 58)
 lead-in b e = let c = both (leb 49 b) (ltb b 58) e in (leb-true 49 b (c .0), ltb-true b 58 (c .1))
 
 module _ (b : ℕ) (t : List ℕ) where
+  -- the byte that ends a line, or the CR before it
+  line-over : (g : List Item) → Tail (lineEnds g b) t → Over g (b ∷ t)
+  line-over g h = by (eqb b lf) refl h
+    where
+      by : (q : Bool) → eqb b lf ≡ q → Tail (cond q (at g) (cond (eqb b cr) (at (byte lf ∷ g)) stuck)) t → Over g (b ∷ t)
+      by true e a = record { eol = LF; next = t; after = a; is = ap (λ (x : ℕ). x ∷ t) (eqb-true b lf e) }
+      by false e a =
+          let c = passed (eqb b cr) (at (byte lf ∷ g)) t a in
+          let i = c .1 in
+          record {
+            eol = CRLF;
+            next = spell g (i .eols) (i .said);
+            after = record { eols = i .eols; said = i .said; spells = i .spells; is = refl };
+            is = ap (λ (x : ℕ). x ∷ t) (eqb-true b cr (c .0)) ∙ ap (λ (x : List ℕ). cr ∷ x) (i .is);
+          }
+
   -- the byte after a whole value
   back-ends : (p : Part) → Left p [] → (k : ℕ) (g : List Item) → Tail (ends k g b) t → InLine p k g (b ∷ t)
   unfolding more
   back-ends p l zero g h =
-      let c = passed (eqb b lf) (at g) t h in
-      record {
-        rest = [];
-        values = [];
-        next = t;
-        left = l;
-        count = refl;
-        small = tt;
-        after = c .1;
-        is = ap (λ (x : ℕ). x ∷ t) (eqb-true b lf (c .0));
-      }
+      let o = line-over g h in
+      record { rest = []; values = []; eol = o .eol; next = o .next; left = l; count = refl; small = tt; after = o .after; is = o .is }
   back-ends p l (suc k) g h =
       let c = passed (eqb b comma) (value fresh k g) t h in
       let i = c .1 in
@@ -81,6 +97,7 @@ module _ (b : ℕ) (t : List ℕ) where
       record {
         rest = [];
         values = o .number ∷ i .values;
+        eol = i .eol;
         next = i .next;
         left = l;
         count = ap suc (i .count);
@@ -90,8 +107,8 @@ module _ (b : ℕ) (t : List ℕ) where
             ap (λ (x : ℕ). x ∷ t) (eqb-true b comma (c .0))
             ∙ ap (λ (x : List ℕ). comma ∷ x)
             (i .is
-            ∙ ap (λ (x : List ℕ). x ++ (more (map text (i .values)) ++ (lineEnd ++ i .next))) (o .is)
-            ∙ sym (append-assoc (text (o .number)) (more (map text (i .values))) (lineEnd ++ i .next)));
+            ∙ ap (λ (x : List ℕ). x ++ (more (map text (i .values)) ++ (lineEnd (i .eol) ++ i .next))) (o .is)
+            ∙ sym (append-assoc (text (o .number)) (more (map text (i .values))) (lineEnd (i .eol) ++ i .next)));
       }
 
   -- a byte more of the value, whatever it is
@@ -100,6 +117,7 @@ module _ (b : ℕ) (t : List ℕ) where
       record {
         rest = b ∷ i .rest;
         values = i .values;
+        eol = i .eol;
         next = i .next;
         left = l;
         count = i .count;
@@ -173,12 +191,12 @@ module _ (k : ℕ) (t : List ℕ) (g : List Item) (i : InLine fresh k g t) where
   unfolding whole-line
   line-fits = record { count = ap suc (i .count); small = (text-of (i .rest) (i .left) .small, i .small) }
 
-  line-is : t ≡ lineText whole-line ++ i .next
+  line-is : t ≡ lineText (i .eol) whole-line ++ i .next
   unfolding whole-line
   line-is =
       i .is
-      ∙ ap (λ (x : List ℕ). x ++ (more (map text (i .values)) ++ (lineEnd ++ i .next))) (text-of (i .rest) (i .left) .is)
-      ∙ sym (line-then (text (text-of (i .rest) (i .left) .number)) (map text (i .values)) (i .next))
+      ∙ ap (λ (x : List ℕ). x ++ (more (map text (i .values)) ++ (lineEnd (i .eol) ++ i .next))) (text-of (i .rest) (i .left) .is)
+      ∙ sym (line-then (i .eol) (text (text-of (i .rest) (i .left) .number)) (map text (i .values)) (i .next))
 
 only-line : (k : ℕ) (t : List ℕ) (f : List Item) → InLine fresh k f t → After (lines one k ∷ f) t
 unfolding linesText
@@ -186,9 +204,13 @@ only-line k t f i =
     let l = whole-line k t f i in
     let a = i .after in
     record {
+      eols = i .eol ∷ a .eols;
       said = (l ∷ []) ∷ a .said;
       spells = ((line-fits k t f i, tt), refl, a .spells);
-      is = line-is k t f i ∙ ap (λ (x : List ℕ). lineText l ++ x) (a .is) ∙ sym (append-assoc (lineText l) [] (spell f (a .said)));
+      is =
+          line-is k t f i
+          ∙ ap (λ (x : List ℕ). lineText (i .eol) l ++ x) (a .is)
+          ∙ sym (append-assoc (lineText (i .eol) l) [] (spell f (a .eols) (a .said)));
     }
 
 -- one line more, where the room that it leaves is what was left
@@ -197,22 +219,26 @@ module _ (n n' : Count) (room : (j : ℕ) → Counted n' j → Counted n (suc j)
   unfolding linesText
   one-more-line k t f i = by (i .after .said) (i .after .spells) (i .after .is)
     where
-      by : (w : List (List (List ℤ))) → Spells (lines n' k ∷ f) w → i .next ≡ spell (lines n' k ∷ f) w → After (lines n k ∷ f) t
+      es : Ends
+      es = i .after .eols
+
+      by : (w : List (List (List ℤ))) → Spells (lines n' k ∷ f) w → i .next ≡ spell (lines n' k ∷ f) es w → After (lines n k ∷ f) t
       by [] s e = absurd s
       by (ls ∷ w) s e =
           let l = whole-line k t (lines n' k ∷ f) i in
           record {
+            eols = i .eol ∷ es;
             said = (l ∷ ls) ∷ w;
             spells = ((line-fits k t (lines n' k ∷ f) i, s .0), room (length ls) (s .1), s .2);
             is =
                 line-is k t (lines n' k ∷ f) i
-                ∙ ap (λ (x : List ℕ). lineText l ++ x) e
-                ∙ sym (append-assoc (lineText l) (linesText ls) (spell f w));
+                ∙ ap (λ (x : List ℕ). lineText (i .eol) l ++ x) e
+                ∙ sym (append-assoc (lineText (i .eol) l) (linesText es ls) (spell f (drop (length ls) es) w));
           }
 
 no-more-lines : (n : Count) → Counted n 0 → (k : ℕ) (t : List ℕ) (f : List Item) → After f t → After (lines n k ∷ f) t
 unfolding linesText
-no-more-lines n c k t f a = record { said = [] ∷ a .said; spells = (tt, c, a .spells); is = a .is }
+no-more-lines n c k t f a = record { eols = a .eols; said = [] ∷ a .said; spells = (tt, c, a .spells); is = a .is }
 
 module _ (b : ℕ) (t : List ℕ) where
   -- a line begins, or it does not
@@ -231,16 +257,18 @@ module _ (b : ℕ) (t : List ℕ) where
   back-enter (byte c ∷ f) h =
       let p = passed (eqb b c) (at f) t h in
       record {
+        eols = p .1 .eols;
         said = p .1 .said;
         spells = p .1 .spells;
         is = ap (λ (x : ℕ). x ∷ t) (eqb-true b c (p .0)) ∙ ap (λ (x : List ℕ). c ∷ x) (p .1 .is);
       }
   back-enter (end ∷ f) h =
-      let p = passed (eqb b lf) (at f) t h in
+      let o = line-over b t f h in
       record {
-        said = p .1 .said;
-        spells = p .1 .spells;
-        is = ap (λ (x : ℕ). x ∷ t) (eqb-true b lf (p .0)) ∙ ap (λ (x : List ℕ). lineEnd ++ x) (p .1 .is);
+        eols = o .eol ∷ o .after .eols;
+        said = o .after .said;
+        spells = o .after .spells;
+        is = o .is ∙ ap (λ (x : List ℕ). lineEnd (o .eol) ++ x) (o .after .is);
       }
   back-enter (lines one k ∷ f) h = only-line k (b ∷ t) f (back-fresh b t k f h)
   back-enter (lines any k ∷ f) h =
@@ -266,7 +294,7 @@ module _ (b : ℕ) (t : List ℕ) where
   back (value p k g) h = back-value b t p k g h
 
 at-end : (f : List Item) → ended f ≡ true → After f []
-at-end [] e = record { said = []; spells = tt; is = refl }
+at-end [] e = record { eols = []; said = []; spells = tt; is = refl }
 at-end (byte c ∷ f) e = not-both false refl e
 at-end (end ∷ f) e = not-both false refl e
 at-end (lines one k ∷ f) e = not-both false refl e
@@ -286,8 +314,9 @@ tail (b ∷ t) s e = back b t s (tail t (step s b) e)
 -- one file
 pub record OneFile (r : Slices) (t : List ℕ) : Type 0 where
   pub file : File
+  pub ends : Ends
   pub fits : Fits r file
-  pub is : t ≡ fileText file
+  pub is : t ≡ fileText ends file
 
 -- THE MACHINE TAKES NOTHING BUT A FILE
 pub sound : (r : Slices) (t : List ℕ) → From (start r) t → OneFile r t
@@ -296,6 +325,10 @@ sound r t e =
     let f = spelt r (a .said) (a .spells) in
     record {
       file = f .file;
+      ends = a .eols;
       fits = f .fits;
-      is = a .is ∙ ap (λ (w : List (List (List ℤ))). spell (format r) w) (sym (f .is)) ∙ file-text r (f .file) (f .fits);
+      is =
+          a .is
+          ∙ ap (λ (w : List (List (List ℤ))). spell (format r) (a .eols) w) (sym (f .is))
+          ∙ file-text r (a .eols) (f .file) (f .fits);
     }

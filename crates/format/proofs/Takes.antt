@@ -4,18 +4,18 @@ use mathlib.Core.Path.{_≡_, refl, ap, sym, _∙_, subst}
 use mathlib.Core.Bool.{true, false}
 use mathlib.Core.List.{List, [], _∷_, _++_, map, append-assoc}
 use native.Mathlib.Omega.{arith}
-use lib.ListN.{length}
+use lib.ListN.{length, drop}
 use lib.IntN.{ℤ}
 use borrow.Author.Tests.{lt-ltb, le-leb, ne-eqb}
-use Rattle.format.specs.Bytes.{lf, lineEnd, comma, minus, isDigit, is-digit, startsLine, Digit}
+use Rattle.format.specs.Bytes.{lf, cr, comma, LineEnd, LF, CRLF, lineEnd, minus, isDigit, is-digit, startsLine, Digit}
 use Rattle.format.specs.Blocks.{one, any, upTo, Slices}
 use Rattle.format.specs.Decimal as D
 use Rattle.format.specs.Decimal.{text, Small, All, Value}
-use Rattle.format.specs.Grammar.{more, lineText, linesText, LineFits, File, rows, fileText, Fits}
+use Rattle.format.specs.Grammar.{more, Ends, firstEnd, lineText, linesText, LineFits, File, rows, fileText, Fits}
 use Rattle.format.specs.Machine.{Item, byte, end, lines, format, fresh, signed, nought, digits, State, at, value, ends, inValue, enter, step}
 use Rattle.format.specs.Machine.{final, start, run, From}
 use Rattle.format.proofs.Decimals.{value-of}
-use Rattle.format.proofs.Live.{Quiet, Sound, hit, end-hit, skip-any, skip-upTo, go}
+use Rattle.format.proofs.Live.{Quiet, Sound, hit, end-hit, cr-hit, skip-any, skip-upTo, go}
 use Rattle.format.proofs.Table.{sound-format}
 use Rattle.format.proofs.Laid.{line-then, spell, Spells, file-text, file-spells}
 
@@ -78,26 +78,40 @@ module _ (k : ℕ) (g : List Item) where
         ∙ digits-go 1 (c .rest) (c .digits) (omega (arith, c .short)))
 
 module _ (g : List Item) where
-  values-go :
-      (z : ℤ) (zs : List ℤ) (x : List ℕ)
-      → Small z
-      → All Small zs
-      → run step (value fresh (length zs) g) (text z ++ (more (map text zs) ++ (lineEnd ++ x))) ≡ run step (at g) x
-  unfolding more
-  values-go z [] x s a = value-goes 0 g lf x refl (text z) (value-of z s)
-  values-go z (y ∷ ys) x s a =
-      value-goes (suc (length ys)) g comma ((text y ++ more (map text ys)) ++ (lineEnd ++ x)) refl (text z) (value-of z s)
-      ∙ ap (λ (u : List ℕ). run step (value fresh (length ys) g) u) (append-assoc (text y) (more (map text ys)) (lineEnd ++ x))
-      ∙ values-go y ys x (a .0) (a .1)
+  -- the LF after a CR
+  fed : (x : List ℕ) → run step (at (byte lf ∷ g)) (lf ∷ x) ≡ run step (at g) x
+  fed x = on lf (at (byte lf ∷ g)) (at g) x (hit lf g)
 
-  -- a line
-  line-goes : (k : ℕ) (l : List ℤ) (x : List ℕ) → LineFits (suc k) l → run step (value fresh k g) (lineText l ++ x) ≡ run step (at g) x
-  line-goes k [] x f = absurd (omega (arith, f .count))
-  line-goes k (z ∷ zs) x f =
-      let e : length zs ≡ k = omega (arith, f .count) in
-      ap (λ (u : List ℕ). run step (value fresh k g) u) (line-then (text z) (map text zs) x)
-      ∙ subst (λ (n : ℕ). run step (value fresh n g) (text z ++ (more (map text zs) ++ (lineEnd ++ x))) ≡ run step (at g) x) e
-      (values-go z zs x (f .small .0) (f .small .1))
+  -- the end of a line of names, and the last value of a line with its end
+  end-goes : (e : LineEnd) (x : List ℕ) → run step (at (end ∷ g)) (lineEnd e ++ x) ≡ run step (at g) x
+  end-goes LF x = on lf (at (end ∷ g)) (at g) x (end-hit g)
+  end-goes CRLF x = on cr (at (end ∷ g)) (at (byte lf ∷ g)) (lf ∷ x) (cr-hit g) ∙ fed x
+
+  last-goes : (e : LineEnd) (t x : List ℕ) → Value t → run step (value fresh 0 g) (t ++ (lineEnd e ++ x)) ≡ run step (at g) x
+  last-goes LF t x v = value-goes 0 g lf x refl t v
+  last-goes CRLF t x v = value-goes 0 g cr (lf ∷ x) refl t v ∙ fed x
+
+  module _ (e : LineEnd) where
+    values-go :
+        (z : ℤ) (zs : List ℤ) (x : List ℕ)
+        → Small z
+        → All Small zs
+        → run step (value fresh (length zs) g) (text z ++ (more (map text zs) ++ (lineEnd e ++ x))) ≡ run step (at g) x
+    unfolding more
+    values-go z [] x s a = last-goes e (text z) x (value-of z s)
+    values-go z (y ∷ ys) x s a =
+        value-goes (suc (length ys)) g comma ((text y ++ more (map text ys)) ++ (lineEnd e ++ x)) refl (text z) (value-of z s)
+        ∙ ap (λ (u : List ℕ). run step (value fresh (length ys) g) u) (append-assoc (text y) (more (map text ys)) (lineEnd e ++ x))
+        ∙ values-go y ys x (a .0) (a .1)
+
+    -- a line
+    line-goes : (k : ℕ) (l : List ℤ) (x : List ℕ) → LineFits (suc k) l → run step (value fresh k g) (lineText e l ++ x) ≡ run step (at g) x
+    line-goes k [] x f = absurd (omega (arith, f .count))
+    line-goes k (z ∷ zs) x f =
+        let n : length zs ≡ k = omega (arith, f .count) in
+        ap (λ (u : List ℕ). run step (value fresh k g) u) (line-then e (text z) (map text zs) x)
+        ∙ subst (λ (n : ℕ). run step (value fresh n g) (text z ++ (more (map text zs) ++ (lineEnd e ++ x))) ≡ run step (at g) x) n
+        (values-go z zs x (f .small .0) (f .small .1))
 
 -- a value, and so a line of values, begins at a digit or minus sign
 pub record Begun (t : List ℕ) : Type 0 where
@@ -117,11 +131,11 @@ value-begun t x (D.plain c) =
     }
 value-begun t x (D.below u q c) = record { first = minus; rest = u ++ x; is = ap (λ (l : List ℕ). l ++ x) q; starts = refl }
 
-pub line-begun : (k : ℕ) (l : List ℤ) (x : List ℕ) → LineFits (suc k) l → Begun (lineText l ++ x)
-line-begun k [] x f = absurd (omega (arith, f .count))
-line-begun k (z ∷ zs) x f =
-    subst Begun (sym (line-then (text z) (map text zs) x))
-    (value-begun (text z) (more (map text zs) ++ (lineEnd ++ x)) (value-of z (f .small .0)))
+pub line-begun : (e : LineEnd) (k : ℕ) (l : List ℤ) (x : List ℕ) → LineFits (suc k) l → Begun (lineText e l ++ x)
+line-begun e k [] x f = absurd (omega (arith, f .count))
+line-begun e k (z ∷ zs) x f =
+    subst Begun (sym (line-then e (text z) (map text zs) x))
+    (value-begun (text z) (more (map text zs) ++ (lineEnd e ++ x)) (value-of z (f .small .0)))
 
 -- lines where they may follow
 module _ (k : ℕ) (g : List Item) where
@@ -139,79 +153,88 @@ module _ (k : ℕ) (g : List Item) where
 
   -- a line of values from a state that begins one
   from-line : (s : State) (g' : List Item) → ((b : ℕ) → startsLine b ≡ true → step s b ≡ step (value fresh k g') b)
-      → (l : List ℤ) (x : List ℕ) → LineFits (suc k) l → run step s (lineText l ++ x) ≡ run step (at g') x
+      → (eol : LineEnd) (l : List ℤ) (x : List ℕ) → LineFits (suc k) l → run step s (lineText eol l ++ x) ≡ run step (at g') x
   unfolding run
-  from-line s g' e l x f =
-      let b = line-begun k l x f in
+  from-line s g' e eol l x f =
+      let b = line-begun eol k l x f in
       ap (λ (u : List ℕ). run step s u) (b .is)
       ∙ ap (λ (q : State). run step q (b .rest)) (e (b .first) (b .starts))
       ∙ ap (λ (u : List ℕ). run step (value fresh k g') u) (sym (b .is))
-      ∙ line-goes g' k l x f
+      ∙ line-goes g' eol k l x f
 
   any-lines :
-      (ls : List (List ℤ)) (x : List ℕ)
+      (es : Ends) (ls : List (List ℤ)) (x : List ℕ)
       → All (LineFits (suc k)) ls
-      → run step (at (lines any k ∷ g)) (linesText ls ++ x) ≡ run step (at (lines any k ∷ g)) x
+      → run step (at (lines any k ∷ g)) (linesText es ls ++ x) ≡ run step (at (lines any k ∷ g)) x
   unfolding linesText
-  any-lines [] x a = refl
-  any-lines (l ∷ ls) x a =
-      ap (λ (u : List ℕ). run step (at (lines any k ∷ g)) u) (append-assoc (lineText l) (linesText ls) x)
-      ∙ from-line (at (lines any k ∷ g)) (lines any k ∷ g) any-begins l (linesText ls ++ x) (a .0)
-      ∙ any-lines ls x (a .1)
+  any-lines es [] x a = refl
+  any-lines es (l ∷ ls) x a =
+      let e = firstEnd es in
+      let more = linesText (drop 1 es) ls in
+      ap (λ (u : List ℕ). run step (at (lines any k ∷ g)) u) (append-assoc (lineText e l) more x)
+      ∙ from-line (at (lines any k ∷ g)) (lines any k ∷ g) any-begins e l (more ++ x) (a .0)
+      ∙ any-lines (drop 1 es) ls x (a .1)
 
-  upTo-lines : (n : ℕ) (ls : List (List ℤ)) (x : List ℕ) → All (LineFits (suc k)) ls → length ls ≤ n
-      → (j : ℕ) × (run step (at (lines (upTo n) k ∷ g)) (linesText ls ++ x) ≡ run step (at (lines (upTo j) k ∷ g)) x)
+  upTo-lines : (n : ℕ) (es : Ends) (ls : List (List ℤ)) (x : List ℕ) → All (LineFits (suc k)) ls → length ls ≤ n
+      → (j : ℕ) × (run step (at (lines (upTo n) k ∷ g)) (linesText es ls ++ x) ≡ run step (at (lines (upTo j) k ∷ g)) x)
   unfolding linesText
-  upTo-lines zero [] x a h = (zero, refl)
-  upTo-lines zero (l ∷ ls) x a h = absurd (omega arith)
-  upTo-lines (suc n) [] x a h = (suc n, refl)
-  upTo-lines (suc n) (l ∷ ls) x a h =
-      let r = upTo-lines n ls x (a .1) (omega arith) in (
+  upTo-lines zero es [] x a h = (zero, refl)
+  upTo-lines zero es (l ∷ ls) x a h = absurd (omega arith)
+  upTo-lines (suc n) es [] x a h = (suc n, refl)
+  upTo-lines (suc n) es (l ∷ ls) x a h =
+      let e = firstEnd es in
+      let more = linesText (drop 1 es) ls in
+      let r = upTo-lines n (drop 1 es) ls x (a .1) (omega arith) in (
         r .0,
-        ap (λ (u : List ℕ). run step (at (lines (upTo (suc n)) k ∷ g)) u) (append-assoc (lineText l) (linesText ls) x)
-            ∙ from-line (at (lines (upTo (suc n)) k ∷ g)) (lines (upTo n) k ∷ g) (upTo-begins n) l (linesText ls ++ x) (a .0)
+        ap (λ (u : List ℕ). run step (at (lines (upTo (suc n)) k ∷ g)) u) (append-assoc (lineText e l) more x)
+            ∙ from-line (at (lines (upTo (suc n)) k ∷ g)) (lines (upTo n) k ∷ g) (upTo-begins n) e l (more ++ x) (a .0)
             ∙ r .1,
       )
 
 -- the names after lines that may be missing, or the end
-module _ (k : ℕ) where
-  past-any : (f : List Item) (w : List (List (List ℤ))) → Quiet f → From (at f) (spell f w) → From (at (lines any k ∷ f)) (spell f w)
+module _ (k : ℕ) (es : Ends) where
+  past-any : (f : List Item) (w : List (List (List ℤ))) → Quiet f → From (at f) (spell f es w) → From (at (lines any k ∷ f)) (spell f es w)
   unfolding run
   past-any [] w q h = refl
-  past-any (byte c ∷ f) w q h = subst (λ (s : State). From s (spell f w)) (hit c f ∙ sym (skip-any c f q k)) h
+  past-any (byte c ∷ f) w q h = subst (λ (s : State). From s (spell f es w)) (hit c f ∙ sym (skip-any c f q k)) h
   past-any (end ∷ f) w q h = absurd q
   past-any (lines n j ∷ f) w q h = absurd q
 
   past-upTo :
       (n : ℕ) (f : List Item) (w : List (List (List ℤ)))
       → Quiet f
-      → From (at f) (spell f w)
-      → From (at (lines (upTo n) k ∷ f)) (spell f w)
+      → From (at f) (spell f es w)
+      → From (at (lines (upTo n) k ∷ f)) (spell f es w)
   unfolding run
   past-upTo n [] w q h = refl
-  past-upTo n (byte c ∷ f) w q h = subst (λ (s : State). From s (spell f w)) (hit c f ∙ sym (skip-upTo c f q n k)) h
+  past-upTo n (byte c ∷ f) w q h = subst (λ (s : State). From s (spell f es w)) (hit c f ∙ sym (skip-upTo c f q n k)) h
   past-upTo n (end ∷ f) w q h = absurd q
   past-upTo n (lines o j ∷ f) w q h = absurd q
 
-goes : (f : List Item) (w : List (List (List ℤ))) → Sound f → Spells f w → From (at f) (spell f w)
+goes : (f : List Item) (es : Ends) (w : List (List (List ℤ))) → Sound f → Spells f w → From (at f) (spell f es w)
 unfolding run linesText
-goes [] [] s a = refl
-goes [] (ls ∷ w) s a = absurd a
-goes (byte c ∷ f) w s a = go c (at (byte c ∷ f)) (at f) (spell f w) (hit c f) (goes f w s a)
-goes (end ∷ f) w s a = go lf (at (end ∷ f)) (at f) (spell f w) (end-hit f) (goes f w s a)
-goes (lines n k ∷ f) [] s a = absurd a
-goes (lines one k ∷ f) ([] ∷ w) s a = absurd (omega (arith, a .1))
-goes (lines one k ∷ f) ((l ∷ []) ∷ w) s a =
-    ap (λ (u : List ℕ). final (run step (at (lines one k ∷ f)) u)) (append-assoc (lineText l) [] (spell f w))
-    ∙ ap final (from-line k f (at (lines one k ∷ f)) f (λ b e. one-begins k f b) l (spell f w) (a .0 .0))
-    ∙ goes f w (s .1) (a .2)
-goes (lines one k ∷ f) ((l ∷ (l' ∷ ls)) ∷ w) s a = absurd (omega (arith, a .1))
-goes (lines any k ∷ f) (ls ∷ w) s a =
-    ap final (any-lines k f ls (spell f w) (a .0)) ∙ past-any k f w (s .0) (goes f w (s .1) (a .2))
-goes (lines (upTo n) k ∷ f) (ls ∷ w) s a =
-    let r = upTo-lines k f n ls (spell f w) (a .0) (a .1) in
-    ap final (r .1) ∙ past-upTo k (r .0) f w (s .0) (goes f w (s .1) (a .2))
+goes [] es [] s a = refl
+goes [] es (ls ∷ w) s a = absurd a
+goes (byte c ∷ f) es w s a = go c (at (byte c ∷ f)) (at f) (spell f es w) (hit c f) (goes f es w s a)
+goes (end ∷ f) es w s a = ap final (end-goes f (firstEnd es) (spell f (drop 1 es) w)) ∙ goes f (drop 1 es) w s a
+goes (lines n k ∷ f) es [] s a = absurd a
+goes (lines one k ∷ f) es ([] ∷ w) s a = absurd (omega (arith, a .1))
+goes (lines one k ∷ f) es ((l ∷ []) ∷ w) s a =
+    let e = firstEnd es in
+    let rest = spell f (drop 1 es) w in
+    ap (λ (u : List ℕ). final (run step (at (lines one k ∷ f)) u)) (append-assoc (lineText e l) [] rest)
+    ∙ ap final (from-line k f (at (lines one k ∷ f)) f (λ b e. one-begins k f b) e l rest (a .0 .0))
+    ∙ goes f (drop 1 es) w (s .1) (a .2)
+goes (lines one k ∷ f) es ((l ∷ (l' ∷ ls)) ∷ w) s a = absurd (omega (arith, a .1))
+goes (lines any k ∷ f) es (ls ∷ w) s a =
+    let after : Ends = drop (length ls) es in
+    ap final (any-lines k f es ls (spell f after w) (a .0)) ∙ past-any k after f w (s .0) (goes f after w (s .1) (a .2))
+goes (lines (upTo n) k ∷ f) es (ls ∷ w) s a =
+    let after : Ends = drop (length ls) es in
+    let r = upTo-lines k f n es ls (spell f after w) (a .0) (a .1) in
+    ap final (r .1) ∙ past-upTo k after (r .0) f w (s .0) (goes f after w (s .1) (a .2))
 
--- THE MACHINE TAKES EVERY FILE
-pub takes : (r : Slices) (f : File) → Fits r f → From (start r) (fileText f)
-takes r f a = subst (λ (t : List ℕ). From (start r) t) (file-text r f a) (goes (format r) (rows f) (sound-format r) (file-spells r f a))
+-- THE MACHINE TAKES EVERY FILE, whatever its lines end in
+pub takes : (r : Slices) (es : Ends) (f : File) → Fits r f → From (start r) (fileText es f)
+takes r es f a =
+    subst (λ (t : List ℕ). From (start r) t) (file-text r es f a) (goes (format r) es (rows f) (sound-format r) (file-spells r f a))

@@ -10,11 +10,11 @@ use lib.IntN.{ℤ, pos, negsuc}
 use mir.Val.{SFits}
 use mir.Syntax.{w64}
 use borrow.Author.Tests.{ne-eqb}
-use Rattle.format.specs.Bytes.{lf, lineEnd, comma, minus, isDigit, is-digit, startsLine, Digit}
-use Rattle.format.specs.Blocks.{Count, one, any, upTo, Block, columns, Slices, free, blocks}
+use Rattle.format.specs.Bytes.{lf, cr, comma, LineEnd, LF, CRLF, lineEnd, minus, isDigit, is-digit, startsLine, Digit}
+use Rattle.format.specs.Blocks.{Count, one, any, upTo, Block, columns, Slices, blocks}
 use Rattle.format.specs.Decimal.{shown, text, Small, All}
-use Rattle.format.specs.Grammar.{more, entries, line, namesOf, namesText, lineText, linesText, blocksText, LineFits, Counted, BlocksFit, File}
-use Rattle.format.specs.Grammar.{rows, fileText, Fits}
+use Rattle.format.specs.Grammar.{more, entries, line, Ends, firstEnd, namesOf, namesText, lineText, linesText, blocksText, LineFits, Counted}
+use Rattle.format.specs.Grammar.{BlocksFit, File, rows, fileText, Fits}
 use Rattle.format.specs.Language.{Follows}
 use Rattle.format.specs.Values.{Got, pastEnd, readDigits, withSign, readValue, readLine, lineHere, readLines, most, readBlocks, fileOf}
 use Rattle.format.proofs.Decimals.{said, numeral, read-back}
@@ -92,36 +92,47 @@ module _ (b : ℕ) (x : List ℕ) (e : isDigit b ≡ false) where
           ap (λ (q : Bool). cond q (withSign true (readDigits 18 0 t)) (withSign false (readDigits 18 0 (c ∷ t)))) (ne-eqb c minus n)
   value-read (negsuc n) h = ap (withSign true) (shown-read (suc n) h)
 
+-- the end of a line
+past-end : (e : LineEnd) (x : List ℕ) → pastEnd (lineEnd e ++ x) ≡ x
+past-end LF x = refl
+past-end CRLF x = refl
+
+last-read : (e : LineEnd) (z : ℤ) (x : List ℕ) → Small z → readValue (text z ++ (lineEnd e ++ x)) ≡ record { got = z; left = lineEnd e ++ x }
+last-read LF z x h = value-read lf x refl z h
+last-read CRLF z x h = value-read cr (lf ∷ x) refl z h
+
 -- a line
 abbrev joined : Got ℤ → Got (List ℤ) → Got (List ℤ)
 joined v r = record { got = v .got ∷ r .got; left = r .left }
 
-line-then-more : (y : ℤ) (ys : List ℤ) (x : List ℕ) → lineText (y ∷ ys) ++ x ≡ (text y ++ more (map text ys)) ++ (lineEnd ++ x)
-unfolding line
-line-then-more y ys x = append-assoc (text y ++ more (map text ys)) lineEnd x
+module _ (e : LineEnd) where
+  line-then-more : (y : ℤ) (ys : List ℤ) (x : List ℕ) → lineText e (y ∷ ys) ++ x ≡ (text y ++ more (map text ys)) ++ (lineEnd e ++ x)
+  unfolding line
+  line-then-more y ys x = append-assoc (text y ++ more (map text ys)) (lineEnd e) x
 
-values-read :
-    (z : ℤ) (zs : List ℤ) (x : List ℕ)
-    → All Small (z ∷ zs)
-    → readLine (suc (length zs)) (lineText (z ∷ zs) ++ x) ≡ record { got = z ∷ zs; left = x }
-unfolding more readLine
-values-read z [] x a =
-    ap (λ (v : Got ℤ). joined v (readLine 0 (pastEnd (v .left))))
-    (ap readValue (line-then (text z) [] x) ∙ value-read lf x refl z (a .0))
-values-read z (y ∷ ys) x a =
-    ap (λ (v : Got ℤ). joined v (readLine (suc (length ys)) (drop 1 (v .left))))
-    (ap readValue (line-then (text z) (map text (y ∷ ys)) x)
-    ∙ value-read comma ((text y ++ more (map text ys)) ++ (lineEnd ++ x)) refl z (a .0))
-    ∙ ap (λ (t : List ℕ). joined (record { got = z; left = comma ∷ t }) (readLine (suc (length ys)) t)) (sym (line-then-more y ys x))
-    ∙ ap (joined (record { got = z; left = comma ∷ (lineText (y ∷ ys) ++ x) })) (values-read y ys x (a .1))
+  values-read :
+      (z : ℤ) (zs : List ℤ) (x : List ℕ)
+      → All Small (z ∷ zs)
+      → readLine (suc (length zs)) (lineText e (z ∷ zs) ++ x) ≡ record { got = z ∷ zs; left = x }
+  unfolding more readLine
+  values-read z [] x a =
+      ap (λ (v : Got ℤ). joined v (readLine 0 (pastEnd (v .left))))
+      (ap readValue (line-then e (text z) [] x) ∙ last-read e z x (a .0))
+      ∙ ap (λ (t : List ℕ). joined (record { got = z; left = lineEnd e ++ x }) (readLine 0 t)) (past-end e x)
+  values-read z (y ∷ ys) x a =
+      ap (λ (v : Got ℤ). joined v (readLine (suc (length ys)) (drop 1 (v .left))))
+      (ap readValue (line-then e (text z) (map text (y ∷ ys)) x)
+      ∙ value-read comma ((text y ++ more (map text ys)) ++ (lineEnd e ++ x)) refl z (a .0))
+      ∙ ap (λ (t : List ℕ). joined (record { got = z; left = comma ∷ t }) (readLine (suc (length ys)) t)) (sym (line-then-more y ys x))
+      ∙ ap (joined (record { got = z; left = comma ∷ (lineText e (y ∷ ys) ++ x) })) (values-read y ys x (a .1))
 
-pub line-read : (k : ℕ) (l : List ℤ) (x : List ℕ) → LineFits (suc k) l → readLine (suc k) (lineText l ++ x) ≡ record { got = l; left = x }
-line-read k [] x f = absurd (omega (arith, f .count))
-line-read k (z ∷ zs) x f =
-    subst (λ (c : ℕ). readLine c (lineText (z ∷ zs) ++ x) ≡ record { got = z ∷ zs; left = x }) (f .count) (values-read z zs x (f .small))
+  pub line-read : (k : ℕ) (l : List ℤ) (x : List ℕ) → LineFits (suc k) l → readLine (suc k) (lineText e l ++ x) ≡ record { got = l; left = x }
+  line-read k [] x f = absurd (omega (arith, f .count))
+  line-read k (z ∷ zs) x f =
+      subst (λ (c : ℕ). readLine c (lineText e (z ∷ zs) ++ x) ≡ record { got = z ∷ zs; left = x }) (f .count) (values-read z zs x (f .small))
 
-line-here : (k : ℕ) (l : List ℤ) (x : List ℕ) → LineFits (suc k) l → lineHere (lineText l ++ x) ≡ true
-line-here k l x f = let b = line-begun k l x f in ap lineHere (b .is) ∙ b .starts
+  line-here : (k : ℕ) (l : List ℤ) (x : List ℕ) → LineFits (suc k) l → lineHere (lineText e l ++ x) ≡ true
+  line-here k l x f = let b = line-begun e k l x f in ap lineHere (b .is) ∙ b .starts
 
 -- lines
 abbrev rowed : Got (List ℤ) → Got (List (List ℤ)) → Got (List (List ℤ))
@@ -135,75 +146,92 @@ module _ (c : ℕ) where
   unfolding readLines
   begun k t e = rw e
 
-  pub lines-read : (k : ℕ) (ls : List (List ℤ)) (x : List ℕ) → All (LineFits (suc c)) ls → length ls ≤ k → lineHere x ≡ false
-      → readLines k (suc c) (linesText ls ++ x) ≡ record { got = ls; left = x }
+  pub lines-read : (k : ℕ) (es : Ends) (ls : List (List ℤ)) (x : List ℕ) → All (LineFits (suc c)) ls → length ls ≤ k → lineHere x ≡ false
+      → readLines k (suc c) (linesText es ls ++ x) ≡ record { got = ls; left = x }
   unfolding readLines linesText
-  lines-read zero [] x a h e = refl
-  lines-read zero (l ∷ ls) x a h e = absurd (omega arith)
-  lines-read (suc k) [] x a h e = rw e
-  lines-read (suc k) (l ∷ ls) x a h e =
-      ap (readLines (suc k) (suc c)) (append-assoc (lineText l) (linesText ls) x)
-      ∙ begun k (lineText l ++ (linesText ls ++ x)) (line-here c l (linesText ls ++ x) (a .0))
-      ∙ ap (λ (g : Got (List ℤ)). rowed g (readLines k (suc c) (g .left))) (line-read c l (linesText ls ++ x) (a .0))
-      ∙ ap (rowed (record { got = l; left = linesText ls ++ x })) (lines-read k ls x (a .1) (omega arith) e)
+  lines-read zero es [] x a h e = refl
+  lines-read zero es (l ∷ ls) x a h e = absurd (omega arith)
+  lines-read (suc k) es [] x a h e = rw e
+  lines-read (suc k) es (l ∷ ls) x a h e =
+      let eol = firstEnd es in
+      let y : List ℕ = linesText (drop 1 es) ls ++ x in
+      ap (readLines (suc k) (suc c)) (append-assoc (lineText eol l) (linesText (drop 1 es) ls) x)
+      ∙ begun k (lineText eol l ++ y) (line-here eol c l y (a .0))
+      ∙ ap (λ (g : Got (List ℤ)). rowed g (readLines k (suc c) (g .left))) (line-read eol c l y (a .0))
+      ∙ ap (rowed (record { got = l; left = y })) (lines-read k (drop 1 es) ls x (a .1) (omega arith) e)
 
 -- no more lines than bytes
-some-byte : (l : List ℤ) → 1 ≤ length (lineText l)
+some-end : (e : LineEnd) → 1 ≤ length (lineEnd e)
+some-end LF = omega arith
+some-end CRLF = omega arith
+
+some-byte : (e : LineEnd) (l : List ℤ) → 1 ≤ length (lineText e l)
 unfolding line
-some-byte l = omega (arith, length-append (entries (map text l)) lineEnd)
+some-byte e l = omega (arith, length-append (entries (map text l)) (lineEnd e), some-end e)
 
-pub few-lines : (ls : List (List ℤ)) → length ls ≤ length (linesText ls)
+pub few-lines : (es : Ends) (ls : List (List ℤ)) → length ls ≤ length (linesText es ls)
 unfolding linesText
-few-lines [] = omega arith
-few-lines (l ∷ ls) = omega (arith, few-lines ls, some-byte l, length-append (lineText l) (linesText ls))
+few-lines es [] = omega arith
+few-lines es (l ∷ ls) =
+    let e = firstEnd es in
+    omega (arith, few-lines (drop 1 es) ls, some-byte e l, length-append (lineText e l) (linesText (drop 1 es) ls))
 
-enough : (n : Count) (ls : List (List ℤ)) (x : List ℕ) → Counted n (length ls) → length ls ≤ most n (linesText ls ++ x)
-enough one ls x c = omega arith
-enough any ls x c = omega (arith, few-lines ls, length-append (linesText ls) x)
-enough (upTo n) ls x c = c
+enough : (n : Count) (es : Ends) (ls : List (List ℤ)) (x : List ℕ) → Counted n (length ls) → length ls ≤ most n (linesText es ls ++ x)
+enough one es ls x c = omega arith
+enough any es ls x c = omega (arith, few-lines es ls, length-append (linesText es ls) x)
+enough (upTo n) es ls x c = c
 
 no-line : (ns y : List ℕ) → Named ns → lineHere (ns ++ y) ≡ false
 no-line [] y n = absurd n
 no-line (c ∷ ns) y n = n
 
 -- a block's text, its names first
-names-then : (b : Block) (x u : List ℕ) → (namesText b ++ x) ++ u ≡ namesOf b ++ (lineEnd ++ (x ++ u))
+names-then : (e : LineEnd) (b : Block) (x u : List ℕ) → (namesText e b ++ x) ++ u ≡ namesOf b ++ (lineEnd e ++ (x ++ u))
 unfolding line
-names-then b x u = append-assoc (namesText b) x u ∙ append-assoc (namesOf b) lineEnd (x ++ u)
+names-then e b x u = append-assoc (namesText e b) x u ∙ append-assoc (namesOf b) (lineEnd e) (x ++ u)
+
+-- the ends of the lines after a block's
+abbrev after : {A : Type 0} → Ends → List A → Ends
+after es ls = drop (length ls) (drop 1 es)
 
 quiet-next :
-    (bs : List Block) (w : List (List (List ℤ))) (u : List ℕ)
+    (es : Ends) (bs : List Block) (w : List (List (List ℤ))) (u : List ℕ)
     → All Headed bs
     → BlocksFit bs w
     → lineHere u ≡ false
-    → lineHere (blocksText bs w ++ u) ≡ false
+    → lineHere (blocksText es bs w ++ u) ≡ false
 unfolding blocksText
-quiet-next [] w u h a e = e
-quiet-next (b ∷ bs) [] u h a e = absurd a
-quiet-next (b ∷ bs) (ls ∷ w) u h a e = ap lineHere (names-then b (linesText ls ++ blocksText bs w) u) ∙ no-line (namesOf b) _ (h .0 .names)
+quiet-next es [] w u h a e = e
+quiet-next es (b ∷ bs) [] u h a e = absurd a
+quiet-next es (b ∷ bs) (ls ∷ w) u h a e =
+    ap lineHere (names-then (firstEnd es) b (linesText (drop 1 es) ls ++ blocksText (after es ls) bs w) u)
+    ∙ no-line (namesOf b) _ (h .0 .names)
 
 abbrev blocked : Got (List (List ℤ)) → Got (List (List (List ℤ))) → Got (List (List (List ℤ)))
 blocked ls r = record { got = ls .got ∷ r .got; left = r .left }
 
-blocks-read : (bs : List Block) (w : List (List (List ℤ))) (u : List ℕ) → All Headed bs → BlocksFit bs w → lineHere u ≡ false
-    → readBlocks bs (blocksText bs w ++ u) ≡ record { got = w; left = u }
+blocks-read : (es : Ends) (bs : List Block) (w : List (List (List ℤ))) (u : List ℕ) → All Headed bs → BlocksFit bs w → lineHere u ≡ false
+    → readBlocks bs (blocksText es bs w ++ u) ≡ record { got = w; left = u }
 unfolding blocksText readBlocks
-blocks-read [] [] u h a e = refl
-blocks-read [] (ls ∷ w) u h a e = absurd a
-blocks-read (b ∷ bs) [] u h a e = absurd a
-blocks-read (b ∷ bs) (ls ∷ w) u h a e =
-    let x : List ℕ = blocksText bs w ++ u in
-    let k : ℕ = most (b .count) (linesText ls ++ x) in
-    let l : readLines k (columns b) (linesText ls ++ x) ≡ record { got = ls; left = x } =
-    subst (λ (c : ℕ). All (LineFits c) ls → readLines k c (linesText ls ++ x) ≡ record { got = ls; left = x }) (h .0 .column)
-    (λ fit. lines-read (columns b - 1) k ls x fit (enough (b .count) ls x (a .1)) (quiet-next bs w u (h .1) (a .2) e))
+blocks-read es [] [] u h a e = refl
+blocks-read es [] (ls ∷ w) u h a e = absurd a
+blocks-read es (b ∷ bs) [] u h a e = absurd a
+blocks-read es (b ∷ bs) (ls ∷ w) u h a e =
+    let own : List ℕ = linesText (drop 1 es) ls in
+    let others : List ℕ = blocksText (after es ls) bs w in
+    let x : List ℕ = others ++ u in
+    let k : ℕ = most (b .count) (own ++ x) in
+    let l : readLines k (columns b) (own ++ x) ≡ record { got = ls; left = x } =
+    subst (λ (c : ℕ). All (LineFits c) ls → readLines k c (own ++ x) ≡ record { got = ls; left = x }) (h .0 .column)
+    (λ fit. lines-read (columns b - 1) k (drop 1 es) ls x fit (enough (b .count) (drop 1 es) ls x (a .1)) (quiet-next (after es ls) bs w u (h .1) (a .2) e))
     (a .0) in
     ap (λ (t : List ℕ). block (readLines (most (b .count) t) (columns b) t))
-    (ap (λ (t : List ℕ). pastEnd (drop (length (namesOf b)) t)) (names-then b (linesText ls ++ blocksText bs w) u)
-    ∙ ap pastEnd (drop-append-seam (namesOf b) (lineEnd ++ ((linesText ls ++ blocksText bs w) ++ u)))
-    ∙ append-assoc (linesText ls) (blocksText bs w) u)
+    (ap (λ (t : List ℕ). pastEnd (drop (length (namesOf b)) t)) (names-then (firstEnd es) b (own ++ others) u)
+    ∙ ap pastEnd (drop-append-seam (namesOf b) (lineEnd (firstEnd es) ++ ((own ++ others) ++ u)))
+    ∙ past-end (firstEnd es) ((own ++ others) ++ u)
+    ∙ append-assoc own others u)
     ∙ ap block l
-    ∙ ap (blocked (record { got = ls; left = x })) (blocks-read bs w u (h .1) (a .2) e)
+    ∙ ap (blocked (record { got = ls; left = x })) (blocks-read (after es ls) bs w u (h .1) (a .2) e)
   where
     block : Got (List (List ℤ)) → Got (List (List (List ℤ)))
     block g = blocked g (readBlocks bs (g .left))
@@ -212,29 +240,31 @@ pub no-line-after : (u : List ℕ) → Follows u → lineHere u ≡ false
 no-line-after [] f = refl
 no-line-after (b ∷ u) f = ap startsLine f
 
--- THE ROUND TRIP: a file's text, with what may follow it, gives its values back
-pub values-back : (r : Slices) (f : File) (u : List ℕ) → Fits r f → Follows u → fileOf (readBlocks (blocks r) (fileText f ++ u) .got) ≡ f
-unfolding blocksText
-values-back r f u a e =
-    ap (λ (g : Got (List (List (List ℤ)))). fileOf (g .got)) (blocks-read (blocks r) (rows f) u (all-headed r) a (no-line-after u e))
+-- THE ROUND TRIP: a file's text, whatever its lines end in, with what may follow it, gives its values back, and what follows it is left
+module _ (r : Slices) (es : Ends) (f : File) (u : List ℕ) (a : Fits r f) (e : Follows u) where
+  file-read : readBlocks (blocks r) (fileText es f ++ u) ≡ record { got = rows f; left = u }
+  unfolding blocksText
+  file-read = blocks-read es (blocks r) (rows f) u (all-headed r) a (no-line-after u e)
+
+  pub values-back : fileOf (readBlocks (blocks r) (fileText es f ++ u) .got) ≡ f
+  values-back = ap (λ (g : Got (List (List (List ℤ)))). fileOf (g .got)) file-read
+
+  pub left-back : readBlocks (blocks r) (fileText es f ++ u) .left ≡ u
+  left-back = ap (λ (g : Got (List (List (List ℤ)))). g .left) file-read
 
 -- so a text is read in one way only
 pub one-reading :
-    (f g : File) (u v : List ℕ)
-    → Fits free f
-    → Fits free g
+    (r : Slices) (es₁ es₂ : Ends) (f g : File) (u v : List ℕ)
+    → Fits r f
+    → Fits r g
     → Follows u
     → Follows v
-    → fileText f ++ u ≡ fileText g ++ v
+    → fileText es₁ f ++ u ≡ fileText es₂ g ++ v
     → (f ≡ g) × (u ≡ v)
-one-reading f g u v x y d e q =
-    let h : f ≡ g =
-    sym (values-back free f u x d) ∙ ap (λ (t : List ℕ). fileOf (readBlocks (blocks free) t .got)) q ∙ values-back free g v y e in (
-      h,
-      sym (drop-append-seam (fileText f) u)
-          ∙ ap (drop (length (fileText f))) (q ∙ ap (λ (k : File). fileText k ++ v) (sym h))
-          ∙ drop-append-seam (fileText f) v,
-    )
+one-reading r es₁ es₂ f g u v x y d e q = (
+  sym (values-back r es₁ f u x d) ∙ ap (λ (t : List ℕ). fileOf (readBlocks (blocks r) t .got)) q ∙ values-back r es₂ g v y e,
+  sym (left-back r es₁ f u x d) ∙ ap (λ (t : List ℕ). readBlocks (blocks r) t .left) q ∙ left-back r es₂ g v y e,
+)
 
 -- a value fits a signed word of 64 bits
 pub small-fits : (z : ℤ) → Small z → SFits w64 z

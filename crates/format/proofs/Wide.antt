@@ -10,7 +10,7 @@ use native.Mathlib.Decide.{ℕ-discrete}
 use lib.Dec.{leb, ltb, eqb}
 use lib.ListN.{length, take, getD}
 use borrow.Author.Tests.{leb-true, le-leb, eq-eqb, ne-eqb}
-use Rattle.format.specs.Bytes.{minus, isDigit, startsLine}
+use Rattle.format.specs.Bytes.{lf, minus, isDigit, startsLine}
 use Rattle.format.specs.Blocks.{Count, one, any, upTo, Block, columns, month, kinds, Slices, free, blocksOf}
 use Rattle.format.specs.Grammar.{namesOf}
 use Rattle.format.specs.Machine.{Item, byte, end, lines, laid, laidOut, format, fresh, signed, nought, State, stuck, at, value, isStuck, lead}
@@ -100,6 +100,9 @@ wide-good stuck g = tt
 wide-good (at f) g = wide-sound f g
 wide-good (value p k f) g = wide-sound f g
 
+same-fed : (f : List Item) → widen (byte lf ∷ f) ≡ byte lf ∷ widen f
+same-fed f = refl
+
 -- and so is a step, but at a line too many
 module _ (b : ℕ) where
   -- at a byte that begins no line
@@ -107,8 +110,8 @@ module _ (b : ℕ) where
   unfolding enter
   wide-names s [] = refl
   wide-names s (byte c ∷ f) = with-cond widen (eqb b c) (at f) stuck _ _ refl refl
-  wide-names s (end ∷ f) = with-ends widen b zero f
-  wide-names s (lines one k ∷ f) = with-value widen b fresh k f
+  wide-names s (end ∷ f) = with-ends widen same-fed b zero f
+  wide-names s (lines one k ∷ f) = with-value widen same-fed b fresh k f
   wide-names s (lines any k ∷ f) = rw s (wide-names s f)
   wide-names s (lines (upTo zero) k ∷ f) = rw s (wide-names s f)
   wide-names s (lines (upTo (suc n)) k ∷ f) = rw s (wide-names s f)
@@ -118,11 +121,11 @@ module _ (b : ℕ) where
   unfolding enter
   wide-line s [] e = refl
   wide-line s (byte c ∷ f) e = with-cond widen (eqb b c) (at f) stuck _ _ refl refl
-  wide-line s (end ∷ f) e = with-ends widen b zero f
-  wide-line s (lines one k ∷ f) e = with-value widen b fresh k f
-  wide-line s (lines any k ∷ f) e = rw s (with-value widen b fresh k (lines any k ∷ f))
+  wide-line s (end ∷ f) e = with-ends widen same-fed b zero f
+  wide-line s (lines one k ∷ f) e = with-value widen same-fed b fresh k f
+  wide-line s (lines any k ∷ f) e = rw s (with-value widen same-fed b fresh k (lines any k ∷ f))
   wide-line s (lines (upTo zero) k ∷ f) e = not-both true e refl
-  wide-line s (lines (upTo (suc n)) k ∷ f) e = rw s (with-value widen b fresh k (lines (upTo n) k ∷ f))
+  wide-line s (lines (upTo (suc n)) k ∷ f) e = rw s (with-value widen same-fed b fresh k (lines (upTo n) k ∷ f))
 
   wide-enter : (f : List Item) → (noRoom f && startsLine b) ≡ false → enter (widen f) b ≡ wide (enter f b)
   wide-enter f e = by (noRoom f) (startsLine b) refl refl e
@@ -137,7 +140,7 @@ module _ (b : ℕ) where
   unfolding step
   wide-step stuck e = refl
   wide-step (at f) e = wide-enter f e
-  wide-step (value p k f) e = with-value widen b p k f
+  wide-step (value p k f) e = with-value widen same-fed b p k f
 
   -- a line may begin with any digit and with a minus sign
   begins-value : startsLine b ≡ true → (k : ℕ) (f : List Item) → isStuck (inValue fresh k f b) ≡ false

@@ -21,9 +21,17 @@ comma = 44
 abbrev pub lf : ℕ
 lf = 10
 
--- what ends a line
-abbrev pub lineEnd : List ℕ
-lineEnd = lf ∷ []
+abbrev pub cr : ℕ
+cr = 13
+
+-- what ends a line: LF, or "CR LF, which is now read as LF, also mixed with LF" (paper 02, Q-3)
+pub data LineEnd : Type 0 where
+  LF : LineEnd
+  CRLF : LineEnd
+
+abbrev pub lineEnd : LineEnd → List ℕ
+lineEnd LF = lf ∷ []
+lineEnd CRLF = cr ∷ lf ∷ []
 
 -- "one minus sign (byte 2D hexadecimal)"
 abbrev pub minus : ℕ

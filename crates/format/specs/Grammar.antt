@@ -1,13 +1,14 @@
 -- The month file as it is written, with no machine (paper 01, "The month file"): values parted by commas, lines and their end, blocks, a
--- file, files on end. Assumes nothing.
+-- file, files on end. A line ends in LF or in CR LF, each for itself (paper 02, Q-3), so a file has many texts: one for each choice of its
+-- lines' ends. Assumes nothing.
 use Prim.Native.Nat.{ℕ, _≤_}
 use Prim.Native.String.{String}
 use mathlib.Core.Path.{_≡_, refl, ap}
 use mathlib.Core.Logic.{_↔_}
 use mathlib.Core.List.{List, [], _∷_, _++_, map, append-assoc, append-nil}
-use lib.ListN.{length}
+use lib.ListN.{length, drop, getD}
 use lib.IntN.{ℤ}
-use Rattle.format.specs.Bytes.{bytes, lineEnd, comma}
+use Rattle.format.specs.Bytes.{bytes, comma, LineEnd, LF, lineEnd}
 use Rattle.format.specs.Blocks.{Count, one, any, upTo, Block, columns, kinds, Slices, free, blocksOf, blocks}
 use Rattle.format.specs.Decimal.{text, Small, All}
 
@@ -22,44 +23,56 @@ entries [] = []
 entries (v ∷ vs) = v ++ more vs
 
 -- a line: its entries, and its end
-unfoldable pub line : List (List ℕ) → List ℕ
-line vs = entries vs ++ lineEnd
+unfoldable pub line : LineEnd → List (List ℕ) → List ℕ
+line e vs = entries vs ++ lineEnd e
 
-pub line-last : (v : List ℕ) → line (v ∷ []) ≡ v ++ lineEnd
+pub line-last : (e : LineEnd) (v : List ℕ) → line e (v ∷ []) ≡ v ++ lineEnd e
 unfolding line more
-line-last v = ap (λ (x : List ℕ). x ++ lineEnd) (append-nil v)
+line-last e v = ap (λ (x : List ℕ). x ++ lineEnd e) (append-nil v)
 
-pub line-more : (v w : List ℕ) (vs : List (List ℕ)) → line (v ∷ w ∷ vs) ≡ v ++ (comma ∷ line (w ∷ vs))
+pub line-more : (e : LineEnd) (v w : List ℕ) (vs : List (List ℕ)) → line e (v ∷ w ∷ vs) ≡ v ++ (comma ∷ line e (w ∷ vs))
 unfolding line more
-line-more v w vs = append-assoc v (comma ∷ (w ++ more vs)) lineEnd
+line-more e v w vs = append-assoc v (comma ∷ (w ++ more vs)) (lineEnd e)
+
+-- the ends of lines in their order; a line past the end of the list ends in LF, so that none named is LF alone
+abbrev pub Ends : Type 0
+Ends = List LineEnd
+
+abbrev pub allLF : Ends
+allLF = []
+
+-- the end of the first line
+abbrev pub firstEnd : Ends → LineEnd
+firstEnd es = getD es 0 LF
 
 -- a block's names, and the line of them
 abbrev pub namesOf : Block → List ℕ
 namesOf b = entries (map bytes (b .names))
 
-abbrev pub namesText : Block → List ℕ
-namesText b = line (map bytes (b .names))
+abbrev pub namesText : LineEnd → Block → List ℕ
+namesText e b = line e (map bytes (b .names))
 
 pub the-names :
     (r : Slices)
-    → map namesText (blocks r)
+    → map (namesText LF) (blocks r)
     ≡ map bytes ("month,ons\n" ∷ "agent,pb,pv,afs,rfs,pa,ret\n" ∷ "user,kind,ret\n" ∷ "at,tp,tf,dp,df,mp,mf,vp,vf\n" ∷ [])
 unfolding line more
 the-names r = refl
 
 -- a line of values, and lines of values
-abbrev pub lineText : List ℤ → List ℕ
-lineText zs = line (map text zs)
+abbrev pub lineText : LineEnd → List ℤ → List ℕ
+lineText e zs = line e (map text zs)
 
-unfoldable pub linesText : List (List ℤ) → List ℕ
-linesText [] = []
-linesText (l ∷ ls) = lineText l ++ linesText ls
+unfoldable pub linesText : Ends → List (List ℤ) → List ℕ
+linesText es [] = []
+linesText es (l ∷ ls) = lineText (firstEnd es) l ++ linesText (drop 1 es) ls
 
 -- blocks: for each its line of names, then its lines of values
-unfoldable pub blocksText : List Block → List (List (List ℤ)) → List ℕ
-blocksText [] w = []
-blocksText (b ∷ bs) [] = []
-blocksText (b ∷ bs) (ls ∷ w) = namesText b ++ (linesText ls ++ blocksText bs w)
+unfoldable pub blocksText : Ends → List Block → List (List (List ℤ)) → List ℕ
+blocksText es [] w = []
+blocksText es (b ∷ bs) [] = []
+blocksText es (b ∷ bs) (ls ∷ w) =
+    namesText (firstEnd es) b ++ (linesText (drop 1 es) ls ++ blocksText (drop (length ls) (drop 1 es)) bs w)
 
 -- a line of so many values, each of at most 18 digits
 pub record LineFits (c : ℕ) (l : List ℤ) : Type 0 where
@@ -94,9 +107,9 @@ kindsOf f = f .agents ∷ f .users ∷ f .points ∷ []
 abbrev pub rows : File → List (List (List ℤ))
 rows f = ((f .month ∷ f .ons ∷ []) ∷ []) ∷ kindsOf f
 
--- its text
-abbrev pub fileText : File → List ℕ
-fileText f = blocksText (blocks free) (rows f)
+-- its text with these ends of its lines
+abbrev pub fileText : Ends → File → List ℕ
+fileText es f = blocksText es (blocks free) (rows f)
 
 -- it has lines of the table's columns, values of at most 18 digits, and no more lines than the slices take
 abbrev pub Fits : Slices → File → Type 0
@@ -139,5 +152,5 @@ fits-slices r f = (
 
 -- "a text of one or more files on end"
 pub data Files : List ℕ → Type 0 where
-  last : (f : File) → Fits free f → Files (fileText f)
-  then : (f : File) → Fits free f → (t : List ℕ) → Files t → Files (fileText f ++ t)
+  last : (es : Ends) (f : File) → Fits free f → Files (fileText es f)
+  then : (es : Ends) (f : File) → Fits free f → (t : List ℕ) → Files t → Files (fileText es f ++ t)

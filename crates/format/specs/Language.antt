@@ -8,7 +8,7 @@ use lib.ListN.{length, take}
 use lib.IntN.{ℤ, pos, negsuc}
 use Rattle.format.specs.Bytes.{m}
 use Rattle.format.specs.Blocks.{Slices}
-use Rattle.format.specs.Grammar.{File, fileText, Fits, Files}
+use Rattle.format.specs.Grammar.{Ends, File, fileText, Fits, Files}
 use Rattle.format.specs.Machine.{TextVerdict, passes, fails}
 
 -- a text of the language L begins so
@@ -34,13 +34,18 @@ abbrev pub Follows : List ℕ → Type 0
 Follows [] = Unit {0}
 Follows (b ∷ t) = b ≡ m
 
--- at the start of the text stands one file that the slices take
+-- at the start of the text stands one file that the slices take, its lines ended so
 pub record Stands (r : Slices) (t : List ℕ) : Type 0 where
   pub file : File
+  pub ends : Ends
   pub rest : List ℕ
   pub fits : Fits r file
   pub follows : Follows rest
-  pub is : t ≡ fileText file ++ rest
+  pub is : t ≡ fileText ends file ++ rest
+
+-- how many bytes it has there
+abbrev pub size : {r : Slices} {t : List ℕ} → Stands r t → ℕ
+size s = length (fileText (s .ends) (s .file))
 
 -- what the file check's number says of a text: -2 over 10^15 bytes; else -1 for one or more files on end, or the place of its 11
 pub record Checked (t : List ℕ) (number : ℤ) : Type 0 where

@@ -8,7 +8,7 @@ use mathlib.Core.List.{List, [], _∷_, _++_, map}
 use lib.Dec.{ltb, eqb}
 use lib.ListN.{length}
 use lib.IntN.{ℤ, pos, negsuc}
-use Rattle.format.specs.Bytes.{lf, comma, minus, m, isDigit, isLead, startsLine}
+use Rattle.format.specs.Bytes.{lf, cr, comma, minus, m, isDigit, isLead, startsLine}
 use Rattle.format.specs.Blocks.{Count, one, any, upTo, Block, columns, Slices, free, blocks}
 use Rattle.format.specs.Grammar.{namesOf}
 
@@ -54,9 +54,9 @@ isStuck (value p k f) = false
 abbrev pub lead : ℕ → List Item → ℕ → State
 lead k f b = cond (isLead b) (value (digits 1) k f) stuck
 
--- the end of a line, of names or of values
+-- the end of a line, of names or of values: LF, or a CR, after which this very byte LF is still to come
 abbrev pub lineEnds : List Item → ℕ → State
-lineEnds f b = cond (eqb b lf) (at f) stuck
+lineEnds f b = cond (eqb b lf) (at f) (cond (eqb b cr) (at (byte lf ∷ f)) stuck)
 
 -- after a whole value: a comma where its line has more values, else the line's end
 abbrev pub ends : ℕ → List Item → ℕ → State

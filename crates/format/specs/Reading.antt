@@ -14,7 +14,7 @@ use lib.Seq.{drop-length}
 use Rattle.format.specs.Bytes.{startsLine}
 use Rattle.format.specs.Blocks.{one, any, upTo, Slices, free, blocks}
 use Rattle.format.specs.Decimal.{All}
-use Rattle.format.specs.Grammar.{File, kindsOf, fileText, Fits}
+use Rattle.format.specs.Grammar.{Ends, File, kindsOf, fileText, Fits}
 use Rattle.format.specs.Machine.{Item, byte, end, lines, State, stuck, at, value, isStuck, step, final, endsBefore, start}
 use Rattle.format.specs.Language.{Begins, Place, Follows, Stands}
 use Rattle.format.specs.Values.{readBlocks, fileOf}
@@ -86,10 +86,11 @@ pub record Exceeds (r : Slices) (s : List ℕ) : Type 0 where
 -- accepted: exactly this file stands at the position and the slices take it; the next position is the first byte after it
 pub record Read (r : Slices) (t : List ℕ) (from : ℕ) (f : File) (next : ℕ) : Type 0 where
   pub fits : Fits r f
+  pub ends : Ends
   pub rest : List ℕ
   pub follows : Follows rest
-  pub is : drop from t ≡ fileText f ++ rest
-  pub next-is : next ≡ min from (length t) + length (fileText f)
+  pub is : drop from t ≡ fileText ends f ++ rest
+  pub next-is : next ≡ min from (length t) + length (fileText ends f)
 
 -- why a file comes back at its byte q: 11, no file of any size could have this byte there (or go no further than the text's end);
 -- 12, a line of values begins there, and with it the file has more lines of a kind than its slice takes

@@ -7,7 +7,7 @@ use mathlib.Core.List.{List, [], _∷_}
 use lib.Dec.{eqb}
 use lib.ListN.{length, drop, getD}
 use lib.IntN.{ℤ, pos, negℤ}
-use Rattle.format.specs.Bytes.{lineEnd, minus, isDigit, startsLine}
+use Rattle.format.specs.Bytes.{cr, minus, isDigit, startsLine}
 use Rattle.format.specs.Blocks.{Count, one, any, upTo, Block, columns}
 use Rattle.format.specs.Grammar.{namesOf, File, rows}
 
@@ -32,9 +32,10 @@ unfoldable pub readValue : List ℕ → Got ℤ
 readValue [] = record { got = pos 0; left = [] }
 readValue (b ∷ t) = cond (eqb b minus) (withSign true (readDigits 18 0 t)) (withSign false (readDigits 18 0 (b ∷ t)))
 
--- past the end of a line; past what follows a value: a comma where more values follow on its line, else the line's end
+-- past the end of a line, LF or CR LF; past what follows a value: a comma where more values follow on its line, else the line's end
 abbrev pub pastEnd : List ℕ → List ℕ
-pastEnd t = drop (length lineEnd) t
+pastEnd [] = []
+pastEnd (b ∷ t) = cond (eqb b cr) (drop 1 t) t
 
 abbrev pub past : ℕ → List ℕ → List ℕ
 past zero t = pastEnd t

@@ -34,13 +34,13 @@ unfolding scan
 none-scan c f i = refl
 
 module _ (t : List ℕ) (i c : ℕ) (f : List Item) where
-  name-on : i < length t → getD t i 0 ≡ c → verdict t (expects c f) i ≡ verdict t (at f) (i + 1)
+  pub name-on : i < length t → getD t i 0 ≡ c → verdict t (expects c f) i ≡ verdict t (at f) (i + 1)
   name-on h e = rw (here t i h) (name-scan c f i (getD t i 0) (drop (i + 1) t) e)
 
-  name-stuck : i < length t → (getD t i 0 ≡ c → ⊥) → verdict t (expects c f) i ≡ Faulty i
+  pub name-stuck : i < length t → (getD t i 0 ≡ c → ⊥) → verdict t (expects c f) i ≡ Faulty i
   name-stuck h e = rw (here t i h) (other-scan c f i (getD t i 0) (drop (i + 1) t) e)
 
-  name-end : length t ≤ i → verdict t (expects c f) i ≡ Faulty i
+  pub name-end : length t ≤ i → verdict t (expects c f) i ≡ Faulty i
   name-end h = rw (drop-of-length-le t h) (none-scan c f i)
 
 -- names from the k-th byte on

@@ -18,6 +18,7 @@
 --   Promised      what `Reads` promises is demand 1
 --   Demand1       DEMAND 1 of reading and of the file check, over what a caller learns
 --   ReadIsReadAt  `read` is `read_at` at the reader's position
+--   SavedCalls    the law of the saved file, over what a caller learns
 pub mod Joining
 pub mod ValueSteps
 pub mod LineSteps
@@ -34,3 +35,4 @@ pub mod Learnt
 pub mod Promised
 pub mod Demand1
 pub mod ReadIsReadAt
+pub mod SavedCalls

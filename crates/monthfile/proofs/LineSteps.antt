@@ -9,13 +9,13 @@ use native.Mathlib.Nat.{not-suc-le-zero}
 use lib.Dec.{eqb}
 use lib.ListN.{length, drop, getD, drop-of-length-le}
 use borrow.Author.Tests.{eq-eqb, ne-eqb}
-use Rattle.format.specs.Bytes.{lf, comma, m, startsLine}
+use Rattle.format.specs.Bytes.{lf, cr, comma, m, startsLine}
 use Rattle.format.specs.Blocks.{one, upTo}
 use Rattle.format.specs.Values.{lineHere}
 use Rattle.format.specs.Machine.{Item, lines, fresh, nought, at, value, inValue, enter, step, ended}
 use Rattle.format.specs.Reading.{noRoom, scan}
 use Rattle.format.specs.declared.Scanned.the-variants.{Faulty, Full}
-use Rattle.monthfile.specs.Passing.{verdict, atEnd, several}
+use Rattle.monthfile.specs.Passing.{verdict, atEnd, afterCr, several}
 use Rattle.monthfile.proofs.ValueSteps.{here, byte-on, byte-stuck}
 
 -- the byte after a value: a comma, if more values follow on its line
@@ -50,9 +50,13 @@ module _ (f : List Item) (i b : ℕ) (u : List ℕ) where
   unfolding scan step enter
   end-scan e = rw (eq-eqb b lf e)
 
-  no-end-scan : (b ≡ lf → ⊥) → scan (atEnd f) i (b ∷ u) ≡ Faulty i
+  cr-scan : b ≡ cr → scan (atEnd f) i (b ∷ u) ≡ scan (afterCr f) (i + 1) u
   unfolding scan step enter
-  no-end-scan e = rw (ne-eqb b lf e)
+  cr-scan e = let n = ne-eqb b lf (λ x. omega arith) in rw (n, eq-eqb b cr e)
+
+  no-end-scan : (b ≡ lf → ⊥) → (b ≡ cr → ⊥) → scan (atEnd f) i (b ∷ u) ≡ Faulty i
+  unfolding scan step enter
+  no-end-scan e n = rw (ne-eqb b lf e, ne-eqb b cr n)
 
 text-over : (f : List Item) (i : ℕ) → scan (atEnd f) i [] ≡ Faulty i
 unfolding scan
@@ -62,8 +66,11 @@ module _ (t : List ℕ) (i : ℕ) (f : List Item) where
   pub end-on : i < length t → getD t i 0 ≡ lf → verdict t (atEnd f) i ≡ verdict t (at f) (i + 1)
   end-on h e = rw (here t i h) (end-scan f i (getD t i 0) (drop (i + 1) t) e)
 
-  pub end-stuck : i < length t → (getD t i 0 ≡ lf → ⊥) → verdict t (atEnd f) i ≡ Faulty i
-  end-stuck h e = rw (here t i h) (no-end-scan f i (getD t i 0) (drop (i + 1) t) e)
+  pub end-cr : i < length t → getD t i 0 ≡ cr → verdict t (atEnd f) i ≡ verdict t (afterCr f) (i + 1)
+  end-cr h e = rw (here t i h) (cr-scan f i (getD t i 0) (drop (i + 1) t) e)
+
+  pub end-stuck : i < length t → (getD t i 0 ≡ lf → ⊥) → (getD t i 0 ≡ cr → ⊥) → verdict t (atEnd f) i ≡ Faulty i
+  end-stuck h e n = rw (here t i h) (no-end-scan f i (getD t i 0) (drop (i + 1) t) e n)
 
   pub end-missing : length t ≤ i → verdict t (atEnd f) i ≡ Faulty i
   end-missing h = rw (drop-of-length-le t h) (text-over f i)

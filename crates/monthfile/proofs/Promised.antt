@@ -8,8 +8,8 @@ use lib.ListN.{length, take, drop, length-map}
 use lib.Seq.{length-front, length-take-le, take-at, drop-at}
 use lib.IntN.{ℤ}
 use Rattle.format.specs.Blocks.{Slices}
-use Rattle.format.specs.Grammar.{File, fileText, fits-slices}
-use Rattle.format.specs.Language.{Stands}
+use Rattle.format.specs.Grammar.{File, fits-slices}
+use Rattle.format.specs.Language.{Stands, size}
 use Rattle.format.specs.Reading.{reading, ReadingAnswer, accepted, refused, Why, faulty, tooLong, Says}
 use Rattle.format.proofs.Answers.{reads, reading-is}
 use Rattle.monthfile.specs.Reads.{over, answered, Gives, Reads}
@@ -52,18 +52,18 @@ module _ {A : Type 0} (entry : List ℤ → A) (pointsOf : File → List A) (so 
   accepts a = by (reading (room c) (c .text) (c .from)) (reads (room c) (c .text) (c .from)) (promised .answer)
     where
       by : (v : ReadingAnswer) → Says (room c) (c .text) (c .from) v → c .answer ≡ answered v → Stands (room c) (here c)
-      by (accepted f n) s e = record { file = f; rest = s .rest; fits = s .fits; follows = s .follows; is = s .is }
+      by (accepted f n) s e = record { file = f; ends = s .ends; rest = s .rest; fits = s .fits; follows = s .follows; is = s .is }
       by (refused n p) s e = let k = sym (a .1) ∙ e in let z : _≡_ {A = ℕ} 0 1 = cc in absurd (omega arith)
 
   refused-so : (n p : ℕ) → c .answer ≡ Refused n p → answer-is (refused n p)
   refused-so n p e = refusal-is (reading (room c) (c .text) (c .from)) n p (sym (promised .answer) ∙ e)
 
-  writes : (s : Stands (room c) (here c)) → Written entry c (s .file)
+  writes : (s : Stands (room c) (here c)) → Written entry c s
   writes s =
       let f = s .file in
-      let n : ℕ = min (c .from) (length (c .text)) + length (fileText f) in
+      let n : ℕ = min (c .from) (length (c .text)) + size s in
       let g = given (accepted f n) (reading-is (room c) (c .text) (c .from) (accepted f n) .1
-      (record { fits = s .fits; rest = s .rest; follows = s .follows; is = s .is; next-is = refl })) in
+      (record { fits = s .fits; ends = s .ends; rest = s .rest; follows = s .follows; is = s .is; next-is = refl })) in
       let few = fits-slices (room c) f .0 (s .fits) .1 in
       let points-few : length (map entry (f .points)) ≤ length (c .points) = omega (arith, length-map (f .points) entry, few .1 .1 .0) in
       record {

@@ -6,11 +6,14 @@ use mathlib.Core.List.{List, [], _∷_, _++_, append-assoc, append-nil, map, map
 use native.Mathlib.Omega.{arith}
 use native.Mathlib.Decide.{decLe}
 use native.Mathlib.Nat.{not-suc-le-zero, le-of-suc-le-suc}
-use lib.ListN.{length, drop, set, length-append, length-drop, length-map, drop-of-length-le}
+use lib.ListN.{length, drop, getD, set, length-append, length-drop, length-map, drop-of-length-le}
 use lib.Seq.{drop-drop, set-append-seam}
 use lib.IntN.{ℤ}
+use borrow.Author.Tests.{eq-eqb, ne-eqb}
+use Rattle.format.specs.Bytes.{cr}
 use Rattle.format.specs.Values.{Got, pastEnd, past, readValue, readLine, lineHere, readLines}
 use Rattle.monthfile.specs.At.{GotAt, LineAt, On, LeftAt, Filled, asRead}
+use Rattle.monthfile.proofs.ValueSteps.{here}
 
 -- some, and then what is read further
 abbrev prefixed : {A : Type 0} → List A → Got (List A) → Got (List A)
@@ -52,11 +55,27 @@ on-drop t i by r o = drop-drop by i t ∙ at (decLe (length t) (i + by))
     at (yes h) = let l : length t ≤ r = omega (arith, o .is) in drop-of-length-le t h ∙ sym (drop-of-length-le t l)
     at (no h) = let l : i + by ≡ r = omega (arith, o .is, h) in ap (λ (n : ℕ). drop n t) l
 
--- past the end of a line, past what follows a value, past names
-module _ (t : List ℕ) (i r : ℕ) where
-  pub on-end : On (length t) i 1 r → LeftAt t (pastEnd (drop i t)) r
-  on-end o = record { is = on-drop t i 1 r o; within = o .within }
+-- past the end of a line: nothing is left, LF, or CR LF
+module _ (t : List ℕ) (i : ℕ) where
+  pub none-left : i ≤ length t → length t ≤ i → LeftAt t (pastEnd (drop i t)) i
+  none-left w h =
+      let e = drop-of-length-le t h in
+      record { is = ap pastEnd e ∙ sym e; within = w }
 
+  pub past-lf : i < length t → (getD t i 0 ≡ cr → ⊥) → LeftAt t (pastEnd (drop i t)) (i + 1)
+  past-lf h n =
+      let q = ne-eqb (getD t i 0) cr n in
+      record { is = ap pastEnd (here t i h) ∙ rw q; within = omega arith }
+
+  pub past-cr : (r : ℕ) → i < length t → getD t i 0 ≡ cr → On (length t) i 2 r → LeftAt t (pastEnd (drop i t)) r
+  past-cr r h e o =
+      let q = eq-eqb (getD t i 0) cr e in
+      let n : i + 1 + 1 ≡ i + 2 = omega arith in
+      let d : drop 1 (drop (i + 1) t) ≡ drop 2 (drop i t) = drop-drop 1 (i + 1) t ∙ ap (λ (k : ℕ). drop k t) n ∙ sym (drop-drop 2 i t) in
+      record { is = ap pastEnd (here t i h) ∙ rw q (d ∙ on-drop t i 2 r o); within = o .within }
+
+-- past what follows a value, past names
+module _ (t : List ℕ) (i r : ℕ) where
   pub at-end : (c : ℕ) → c ≡ 0 → LeftAt t (pastEnd (drop i t)) r → LeftAt t (past c (drop i t)) r
   at-end zero e p = p
   at-end (suc c) e p = absurd (omega arith)

@@ -9,7 +9,7 @@ use native.Mathlib.Decide.{decLe}
 use lib.ListN.{length, drop, getD, drop-of-length-le}
 use lib.Seq.{drop-cons}
 use borrow.Author.Tests.{lt-ltb, ne-eqb}
-use Rattle.format.specs.Bytes.{lf, comma, minus, isDigit, isLead, is-digit}
+use Rattle.format.specs.Bytes.{lf, cr, comma, minus, isDigit, isLead, is-digit}
 use Rattle.format.specs.Machine.{Item, Part, fresh, signed, nought, digits, State, stuck, value, isStuck, ends, inValue, step}
 use Rattle.format.specs.Reading.{scan}
 use Rattle.format.specs.declared.Scanned.the-variants.{Faulty}
@@ -41,7 +41,11 @@ value-like p q c f i b u e = rw e
 
 -- a digit ends no value
 digit-ends : (c : ℕ) (f : List Item) (b : ℕ) → isDigit b ≡ true → ends c f b ≡ stuck
-digit-ends zero f b e = let d = is-digit b .0 e in let n = ne-eqb b lf (λ x. omega (arith, d .low)) in rw n
+digit-ends zero f b e =
+    let d = is-digit b .0 e in
+    let n = ne-eqb b lf (λ x. omega (arith, d .low)) in
+    let c = ne-eqb b cr (λ x. omega (arith, d .low)) in
+    rw (n, c)
 digit-ends (suc c) f b e = let d = is-digit b .0 e in let n = ne-eqb b comma (λ x. omega (arith, d .low)) in rw n
 
 no-more : (c : ℕ) (f : List Item) (b : ℕ) (q : Bool) → isDigit b ≡ q → inValue (digits 18) c f b ≡ inValue nought c f b

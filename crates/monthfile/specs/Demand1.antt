@@ -8,8 +8,7 @@ use mathlib.Core.List.{List, map}
 use lib.ListN.{length, take, drop}
 use lib.IntN.{ℤ}
 use Rattle.format.specs.Blocks.{Slices, slices}
-use Rattle.format.specs.Grammar.{File, fileText}
-use Rattle.format.specs.Language.{Stands}
+use Rattle.format.specs.Language.{Stands, size}
 use Rattle.format.specs.Reading.{Back}
 use Rattle.rules.specs.Lines.{pointOf}
 use Rattle.rules.specs.declared.Point.{Point}
@@ -49,22 +48,22 @@ pub record Front {A : Type 0} (entries before after : List A) : Type 0 where
   pub beyond : drop (length entries) after ≡ drop (length entries) before
   pub same-length : length after ≡ length before
 
--- the file f was read, its points each as their entry: the answer has its values, its counts and the first byte after it; its lines stand
--- in the slices
-pub record Written {A : Type 0} (entry : List ℤ → A) (c : ReadCall A) (f : File) : Type 0 where
+-- the file that stands at the position was read, its points each as their entry: the answer has its values, its counts and the first byte
+-- after it; its lines stand in the slices
+pub record Written {A : Type 0} (entry : List ℤ → A) (c : ReadCall A) (s : Stands (room c) (here c)) : Type 0 where
   pub answer :
       c .answer
       ≡ Accepted
       (record {
-        line = record { month = f .month; ons = f .ons };
-        agents = length (f .agents);
-        users = length (f .users);
-        points = length (f .points);
-        next = min (c .from) (length (c .text)) + length (fileText f);
+        line = record { month = s .file .month; ons = s .file .ons };
+        agents = length (s .file .agents);
+        users = length (s .file .users);
+        points = length (s .file .points);
+        next = min (c .from) (length (c .text)) + size s;
       })
-  pub agents : Front (f .agents) (c .agents) (c .agentsLeft)
-  pub users : Front (f .users) (c .users) (c .usersLeft)
-  pub points : Front (map entry (f .points)) (c .points) (c .pointsLeft)
+  pub agents : Front (s .file .agents) (c .agents) (c .agentsLeft)
+  pub users : Front (s .file .users) (c .users) (c .usersLeft)
+  pub points : Front (map entry (s .file .points)) (c .points) (c .pointsLeft)
 
 -- DEMAND 1 of a reading that writes each point as this entry
 pub record Demand1Reading {A : Type 0} (entry : List ℤ → A) (c : ReadCall A) : Type 0 where
@@ -74,14 +73,14 @@ pub record Demand1Reading {A : Type 0} (entry : List ℤ → A) (c : ReadCall A)
   pub refused : (number place : ℕ) → (c .answer ≡ Refused number place) ↔ Back (room c) (c .text) (c .from) number place
   pub eleven-or-twelve : (number place : ℕ) → c .answer ≡ Refused number place → (number ≡ 11) ⊎ (number ≡ 12)
   pub unchanged : (number place : ℕ) → c .answer ≡ Refused number place → Unchanged c
-  pub written : (s : Stands (room c) (here c)) → Written entry c (s .file)
+  pub written : (s : Stands (room c) (here c)) → Written entry c s
 
 -- DEMAND 1 of the reader, which keeps text and position: the text stays; the position goes to the first byte after the file that stands
 -- there, and stays after a refusal
 pub record Demand1Reader (c : ReadCall Point) (text′ : List ℕ) (position : ℕ) : Type 0 where
   pub reading : Demand1Reading pointOf c
   pub text : text′ ≡ c .text
-  pub moves : (s : Stands (room c) (here c)) → position ≡ min (c .from) (length (c .text)) + length (fileText (s .file))
+  pub moves : (s : Stands (room c) (here c)) → position ≡ min (c .from) (length (c .text)) + size s
   pub stays : (number place : ℕ) → c .answer ≡ Refused number place → position ≡ c .from
 
 -- two readings lent the same

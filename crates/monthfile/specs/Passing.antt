@@ -4,6 +4,7 @@ use Prim.Native.Nat.{ℕ, _+_, _≤_, _<_}
 use mathlib.Core.Path.{_≡_}
 use mathlib.Core.List.{List, _∷_, _++_, map}
 use lib.ListN.{length, drop}
+use Rattle.format.specs.Bytes.{lf}
 use Rattle.format.specs.Blocks.{Count, upTo}
 use Rattle.format.specs.Machine.{Item, byte, end, lines, laid, State, at}
 use Rattle.format.specs.Reading.{scan}
@@ -39,6 +40,10 @@ pub record Continues (t : List ℕ) (r : Scanned) (s s' : List Item → State) (
 -- before the end of a line
 abbrev pub atEnd : List Item → State
 atEnd f = at (end ∷ f)
+
+-- after the CR of a line's end, before its LF
+abbrev pub afterCr : List Item → State
+afterCr f = at (byte lf ∷ f)
 
 -- before a line of these names
 abbrev pub atNames : List ℕ → List Item → State

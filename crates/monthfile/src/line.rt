@@ -5,10 +5,24 @@ ghost use lib.ListN.{length, drop};
 ghost use Rattle.format.specs.Bytes.{startsLine};
 ghost use Rattle.format.specs.Values.{lineHere};
 ghost use Rattle.format.specs.Machine.{fresh, at, value as inValue};
-ghost use Rattle.monthfile.specs.Passing.{Passes, atEnd, several};
+ghost use Rattle.monthfile.specs.Passing.{Passes, atEnd, afterCr, several};
 use format::Scanned;
 
-// The end of a line, of names or of values.
+// The LF that must follow a CR.
+fn line_feed(text: &[u8], i: usize) -> Scanned
+    requires { ⌜ i ≤ length (now text) ⌝ }
+    ensures { λ r. ⌜ Passes (now (text .entry)) i afterCr at r ⌝ }
+{
+    if text.len() <= i {
+        return Scanned::Faulty(i);
+    }
+    if text[i] == b'\n' {
+        return Scanned::Whole(i + 1);
+    }
+    Scanned::Faulty(i)
+}
+
+// The end of a line, of names or of values: LF, or CR and LF.
 pub(crate) fn line_end(text: &[u8], i: usize) -> Scanned
     requires { ⌜ i ≤ length (now text) ⌝ }
     ensures { λ r. ⌜ Passes (now (text .entry)) i atEnd at r ⌝ }
@@ -18,6 +32,9 @@ pub(crate) fn line_end(text: &[u8], i: usize) -> Scanned
     }
     if text[i] == b'\n' {
         return Scanned::Whole(i + 1);
+    }
+    if text[i] == b'\r' {
+        return line_feed(text, i + 1);
     }
     Scanned::Faulty(i)
 }

@@ -82,12 +82,18 @@ fn on(size: usize, at: usize, by: usize) -> usize
     if size - at < by { size } else { at + by }
 }
 
-// Past the end of a line.
+// Past the end of a line, LF or CR LF.
 fn past_end(text: &[u8], at: usize) -> usize
     requires { ⌜ at ≤ length (now text) ⌝ }
     ensures { λ r. ⌜ LeftAt (now (text .entry)) (pastEnd (drop at (now (text .entry)))) r ⌝ }
 {
-    on(text.len(), at, 1)
+    if text.len() <= at {
+        return at;
+    }
+    if text[at] == b'\r' {
+        return on(text.len(), at, 2);
+    }
+    at + 1
 }
 
 // Past what stands after a value that so many follow on its line: a comma, or the line's end.

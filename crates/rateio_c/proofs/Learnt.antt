@@ -1,6 +1,8 @@
 -- WHAT A CALLER IN C LEARNS, in paper 01's words ("The month file", last paragraph): from `Reads.Learnt`, generated of the checked
 -- contracts of `rateio_share` and `rateio_check`, so that a contract that promises less is refused here. Nothing is assumed of a caller.
-use mathlib.Core.Path.{refl, sym, ap, subst}
+use Prim.Native.Nat.{_≤_}
+use mathlib.Core.Path.{_≡_, refl, sym, ap, _∙_, subst}
+use lib.ListN.{length}
 use lib.IntN.{ℤ}
 use contract.Lifetimes.{Lfts}
 use denote.Ref.{now}
@@ -9,7 +11,9 @@ use denote.Triple.Clauses.{Lasts, atExit}
 use Rattle.share.specs.Answer.{sharing, seenByC}
 use Rattle.share.proofs.Limits.{share-limits}
 use Rattle.format.specs.Language.{Checked}
+use Rattle.format.specs.Saved.{Saved, movedNumber}
 use Rattle.format.proofs.FileCheck.{file-check}
+use Rattle.format.proofs.SavedReads.{same-check}
 use Rattle.rateio_c.specs.Seen.{SeenShare}
 use Rattle.rateio_c.proofs.rateio_share as share
 use Rattle.rateio_c.proofs.rateio_share.Reads as share-reads
@@ -40,3 +44,13 @@ share-learnt κs a r last l = subst (λ (x : ℤ). SeenShare (a .0) (a .1 .0) (a
 pub check-learnt : (κs : Lfts 1) (a : Args check.signature κs) (r : Res check.signature κs) (last : Lasts check.ended κs a)
     → check-reads.Learnt κs a r (atExit check.ended κs a last) → Checked (now (a .0)) r
 check-learnt κs a r last l = subst (λ (x : ℤ). Checked (now (a .0)) x) (sym l) (file-check (now (a .0)))
+
+-- THE LAW OF THE SAVED FILE (paper 02, Q-3) of two calls: with CRs added before LFs the same −1, or the place moved
+pub check-saved :
+    (κs : Lfts 1) (a b : Args check.signature κs) (r s : Res check.signature κs) (last : Lasts check.ended κs a) (last′ : Lasts check.ended κs b)
+    → check-reads.Learnt κs a r (atExit check.ended κs a last)
+    → check-reads.Learnt κs b s (atExit check.ended κs b last′)
+    → (c : Saved (now (a .0)) (now (b .0)))
+    → length (now (b .0)) ≤ 1_000_000_000_000_000
+    → s ≡ movedNumber c r
+check-saved κs a b r s last last′ l l′ c h = l′ ∙ same-check (now (a .0)) (now (b .0)) c h ∙ ap (movedNumber c) (sym l)

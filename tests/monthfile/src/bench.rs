@@ -45,4 +45,6 @@ pub fn run() {
     row("many small files", &small);
     row("long files of points", &points);
     row("values of every length", &long);
+    row("small files in CR LF", &texts::cr_lf(&small));
+    row("files of points in CR LF", &texts::cr_lf(&points));
 }

@@ -63,6 +63,49 @@ fn sound(rng: &mut Rng) -> Vec<u8> {
     text
 }
 
+/// A CR before some of the LFs that have none is read as if it were not there: files stay files, and a place moves by
+/// the CRs put in before the byte at it; one put in just before that byte is the wrong byte then, and has its place.
+fn cr_before_lfs(rng: &mut Rng, text: &[u8], tally: &mut Tally) {
+    let percent = rng.pick(&[10, 50, 90, 100]);
+    let crs: Vec<usize> = texts::bare_lfs(text).into_iter().filter(|_| rng.chance(percent)).collect();
+    let longer = texts::with_crs(text, &crs);
+    let due = match exported(text) {
+        -1 => -1,
+        place => place + crs.iter().filter(|&&at| (at as i64) < place).count() as i64,
+    };
+    if exported(&longer) != due {
+        println!(
+            "DIFFERENT: {} with CRs, wanted {}, of {:?}",
+            exported(&longer),
+            due,
+            String::from_utf8_lossy(&longer)
+        );
+        std::process::exit(1);
+    }
+    tally.compare(&longer);
+}
+
+/// Two files in LF, in CR LF, and mixed.
+fn two_files(rng: &mut Rng) -> [Vec<u8>; 3] {
+    let lf = [sample::INPUT, sample::INPUT].concat().into_bytes();
+    let (cr_lf, mixed) = (texts::cr_lf(&lf), texts::mixed(rng, &lf));
+    [lf, cr_lf, mixed]
+}
+
+/// What may stand for a line's end, or be taken for one.
+const ENDS: [&[u8]; 8] = [b"\r", b"\n", b"\r\n", b"\n\r", b"\r\r", b"\r\r\n", b"\r\n\r", b"\r\n\n"];
+
+/// Each of these ends put in at every place, and put for every byte and for every two.
+fn ends_at_every_place(text: &[u8], compare: &mut dyn FnMut(&[u8])) {
+    for end in ENDS {
+        for at in 0..=text.len() {
+            for instead in 0..=2.min(text.len() - at) {
+                compare(&[&text[..at], end, &text[at + instead..]].concat());
+            }
+        }
+    }
+}
+
 /// A text written as other systems write it.
 fn foreign(rng: &mut Rng, text: &[u8]) -> Vec<u8> {
     let mut text = text.to_vec();
@@ -125,9 +168,17 @@ pub fn compare_all(readings: &str) {
         }
     });
     class("files of every shape", &mut |t| (0..30_000).for_each(|_| t.compare(&sound(&mut rng))));
+    class("files in CR LF", &mut |t| (0..15_000).for_each(|_| t.compare(&texts::cr_lf(&sound(&mut rng)))));
+    class("files in LF and CR LF", &mut |t| {
+        for _ in 0..15_000 {
+            let text = sound(&mut rng);
+            t.compare(&texts::mixed(&mut rng, &text));
+        }
+    });
     class("damaged", &mut |t| {
         for _ in 0..150_000 {
             let text = sound(&mut rng);
+            let text = texts::any_ends(&mut rng, &text);
             t.compare(&texts::damaged(&mut rng, &text));
         }
     });
@@ -137,17 +188,45 @@ pub fn compare_all(readings: &str) {
             t.compare(&foreign(&mut rng, &text));
         }
     });
+    class("CRs before LFs", &mut |t| {
+        for _ in 0..60_000 {
+            let mut text = sound(&mut rng);
+            if rng.chance(30) {
+                text = texts::mixed(&mut rng, &text);
+            }
+            if rng.chance(70) {
+                text = texts::damaged(&mut rng, &text);
+            }
+            cr_before_lfs(&mut rng, &text, t);
+        }
+    });
     class("around the worked file", &mut |t| around(sample::INPUT.as_bytes(), &mut |text| t.compare(text)));
+    class("around it in CR LF", &mut |t| around(&texts::cr_lf(sample::INPUT.as_bytes()), &mut |text| t.compare(text)));
     class("around small files", &mut |t| {
         for counts in [[0, 0, 0], [1, 0, 1], [0, 1, 0]] {
             let [agents, users, points] = counts;
             let text = texts::file(&texts::any_values(&mut rng, Counts { agents, users, points }));
+            let mixed = texts::mixed(&mut rng, &text);
             around(&text, &mut |text| t.compare(text));
+            around(&mixed, &mut |text| t.compare(text));
         }
     });
     class("cut in two files", &mut |t| {
-        let text = [sample::INPUT, sample::INPUT].concat();
-        (0..=text.len()).for_each(|at| t.compare(&text.as_bytes()[..at]));
+        for text in two_files(&mut rng) {
+            (0..=text.len()).for_each(|at| t.compare(&text[..at]));
+        }
+    });
+    class("a CR in two files", &mut |t| {
+        for text in two_files(&mut rng) {
+            (0..=text.len()).for_each(|at| t.compare(&texts::with_crs(&text, &[at])));
+        }
+    });
+    class("ends in a small file", &mut |t| {
+        let text = texts::file(&texts::any_values(&mut rng, Counts { agents: 1, users: 1, points: 1 }));
+        let (cr_lf, mixed) = (texts::cr_lf(&text), texts::mixed(&mut rng, &text));
+        for text in [text, cr_lf, mixed] {
+            ends_at_every_place(&text, &mut |text| t.compare(text));
+        }
     });
     all.print("together");
     assert!(all.texts >= 100_000 && all.files > 10_000 && all.ends > 1_000 && all.places > 10_000);

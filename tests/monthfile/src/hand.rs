@@ -11,11 +11,24 @@ fn byte(text: &[u8], at: usize, wanted: u8) -> Passed {
     }
 }
 
+/// LF or CR LF, the latter apart so that text in LF loses nothing by it.
+fn line_end(text: &[u8], at: usize) -> Passed {
+    if at < text.len() && text[at] == b'\n' {
+        return Ok(at + 1);
+    }
+    cr_lf(text, at)
+}
+
+#[cold]
+fn cr_lf(text: &[u8], at: usize) -> Passed {
+    byte(text, at, b'\r').and_then(|at| byte(text, at, b'\n'))
+}
+
 fn names(text: &[u8], mut at: usize, names: &[u8]) -> Passed {
     for &wanted in names {
         at = byte(text, at, wanted)?;
     }
-    Ok(at)
+    line_end(text, at)
 }
 
 fn value(text: &[u8], mut at: usize) -> Passed {
@@ -40,7 +53,7 @@ fn value(text: &[u8], mut at: usize) -> Passed {
 fn line(text: &[u8], mut at: usize, columns: usize) -> Passed {
     for column in 0..columns {
         at = value(text, at)?;
-        at = byte(text, at, if column + 1 < columns { b',' } else { b'\n' })?;
+        at = if column + 1 < columns { byte(text, at, b',')? } else { line_end(text, at)? };
     }
     Ok(at)
 }
@@ -54,11 +67,11 @@ fn block(text: &[u8], mut at: usize, its_names: &[u8], columns: usize) -> Passed
 }
 
 fn file(text: &[u8], mut at: usize) -> Passed {
-    at = names(text, at, b"month,ons\n")?;
+    at = names(text, at, b"month,ons")?;
     at = line(text, at, 2)?;
-    at = block(text, at, b"agent,pb,pv,afs,rfs,pa,ret\n", 7)?;
-    at = block(text, at, b"user,kind,ret\n", 3)?;
-    at = block(text, at, b"at,tp,tf,dp,df,mp,mf,vp,vf\n", 9)?;
+    at = block(text, at, b"agent,pb,pv,afs,rfs,pa,ret", 7)?;
+    at = block(text, at, b"user,kind,ret", 3)?;
+    at = block(text, at, b"at,tp,tf,dp,df,mp,mf,vp,vf", 9)?;
     if at == text.len() || text[at] == b'm' {
         Ok(at)
     } else {

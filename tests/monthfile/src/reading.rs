@@ -135,9 +135,44 @@ fn short_cases() -> Vec<Case> {
         let room = [(); 3].map(|()| rng.below(4) as u8);
         add(How::AsItIs, rng.below(3) as u8, room, &text);
     }
-    add(How::AsItIs, 0, [2, 2, 2], sample::INPUT.replace('\n', "\r\n").as_bytes());
     add(How::AsItIs, 0, [2, 2, 2], &[b"\xef\xbb\xbf", sample::INPUT.as_bytes()].concat());
     add(How::Cut, 0, [2, 2, 2], &two);
+
+    // Lines that end in CR LF, all of them or some: every room, positions about a file's end, and the last LF missing.
+    let worked = sample::INPUT.as_bytes();
+    for file in [texts::cr_lf(worked), texts::mixed(&mut rng, worked), texts::mixed(&mut rng, worked)] {
+        for room in rooms([2, 2, 2]) {
+            add(How::AsItIs, 0, room, &file);
+        }
+        let end = file.len();
+        let further = [&file[..], worked].concat();
+        for at in [0, 1, end - 2, end - 1, end, end + 1] {
+            add(How::AsItIs, at as u8, [2, 2, 2], &file);
+            add(How::AsItIs, at as u8, [2, 2, 2], &further);
+        }
+        add(How::AsItIs, 0, [2, 2, 2], &file[..end - 1]);
+        for after in [&b"\r"[..], b"\r\n", b"\n", b"\rm"] {
+            add(How::AsItIs, 0, [2, 2, 2], &[&file[..], after].concat());
+        }
+    }
+    // A lone CR for the end of each line, in a file that has room and in one that has none for some kind.
+    let office = texts::cr_lf(worked);
+    for (line, lf) in texts::bare_lfs(worked).into_iter().enumerate() {
+        let mut lone = worked.to_vec();
+        lone[lf] = b'\r';
+        for room in [[2, 2, 2], [1, 2, 2], [2, 1, 2], [2, 2, 1]] {
+            add(How::AsItIs, 0, room, &lone);
+        }
+        add(How::AsItIs, 0, [2, 2, 2], &lone[..=lf]);
+        // A second CR; there are as many CRs before this line's LF as there are lines up to it.
+        add(How::AsItIs, 0, [2, 2, 2], &texts::with_crs(&office, &[lf + line + 1]));
+    }
+    for _ in 0..60 {
+        let text = texts::mixed(&mut rng, worked);
+        let text = texts::damaged(&mut rng, &text);
+        let room = [(); 3].map(|()| rng.below(4) as u8);
+        add(How::AsItIs, 0, room, &text);
+    }
     cases
 }
 
@@ -147,11 +182,24 @@ fn two_files() -> Vec<u8> {
 
 /// More readings than the interpreter takes in one run.
 fn long_cases() -> Vec<Case> {
-    let none = MonthLines { month: -1, ons: 0, agents: vec![], users: vec![], points: vec![] };
-    vec![
-        Case { how: How::Cut, at: 184, room: [2, 1, 2], text: two_files() },
-        Case { how: How::Changed, at: 0, room: [1, 1, 1], text: texts::file(&none) },
-    ]
+    let none = texts::file(&MonthLines { month: -1, ons: 0, agents: vec![], users: vec![], points: vec![] });
+    let two = two_files();
+    let mut cases = vec![
+        Case { how: How::Cut, at: 184, room: [2, 1, 2], text: two.clone() },
+        Case { how: How::Cut, at: 195, room: [2, 2, 1], text: texts::cr_lf(&two) },
+        Case { how: How::Changed, at: 0, room: [1, 1, 1], text: texts::cr_lf(&none) },
+        Case { how: How::Changed, at: 0, room: [1, 1, 1], text: none },
+    ];
+    // A CR at every place of a file and at the start of the next, with room and without.
+    for text in [sample::INPUT.as_bytes().to_vec(), texts::cr_lf(sample::INPUT.as_bytes())] {
+        let further = [&text[..], b"month,ons\r\n"].concat();
+        for at in 0..=text.len() + 1 {
+            for room in [[2, 2, 2], [1, 2, 1]] {
+                cases.push(Case { how: How::AsItIs, at: 0, room, text: texts::with_crs(&further, &[at]) });
+            }
+        }
+    }
+    cases
 }
 
 /// Writes the program's input and what it has to write, to one folder for the short cases and one for the long.

@@ -1,9 +1,10 @@
 //! Both programs beside the reference calculation, input after input, on two threads.
 
 use crate::child::{Desk, Program, Runner};
-use crate::{inputs, rows};
-use rateio_reference::consulta;
+use crate::inputs::{self, Input};
+use crate::rows;
 use rateio_reference::program::{self, Event, PROGRAM_INPUT};
+use rateio_reference::{consulta, texts};
 use std::ops::Range;
 use std::path::Path;
 use std::sync::atomic::{AtomicBool, AtomicU64, AtomicUsize, Ordering};
@@ -26,6 +27,9 @@ pub struct Counts {
     pub in_pieces: u64,
     /// Inputs of no bytes, of the most that are taken, of one more, and of more than that.
     pub sizes: [u64; 4],
+    /// Inputs with a closed month and all lines in CR LF, with one and some lines so; and inputs refused for a CR: at
+    /// the byte after it where a line may end, and at the CR itself.
+    pub line_ends: [u64; 4],
     pub files: usize,
     pub closed: usize,
     pub with_credit: usize,
@@ -42,6 +46,7 @@ impl Counts {
         let length = input.len();
         let sizes = [length == 0, length == PROGRAM_INPUT, length == PROGRAM_INPUT + 1, length > PROGRAM_INPUT + 1];
         self.sizes.iter_mut().zip(sizes).for_each(|(count, is_so)| *count += u64::from(is_so));
+        self.line_ends.iter_mut().zip(line_ends(input, events)).for_each(|(count, is_so)| *count += u64::from(is_so));
         self.files += events.len();
         for event in events {
             match event {
@@ -56,17 +61,34 @@ impl Counts {
     }
 }
 
+/// Which of the counts of line ends an input belongs to.
+fn line_ends(input: &[u8], events: &[Event]) -> [bool; 4] {
+    let closed = events.iter().any(|event| matches!(event, Event::Closed(_)));
+    let bare = !texts::bare_lfs(input).is_empty();
+    let office = input.windows(2).any(|pair| pair == b"\r\n");
+    let place = match events.last() {
+        Some(Event::Refused(refusal)) if refusal.number == 11 => Some(refusal.place as usize),
+        _ => None,
+    };
+    let cr_at = |at: usize| input.get(at) == Some(&b'\r');
+    let lone = place.map_or(false, |place| place > 0 && cr_at(place - 1));
+    let astray = place.map_or(false, cr_at);
+    [closed && office && !bare, closed && office && bare, lone, astray]
+}
+
 /// An input on which a program is wrong.
 pub struct Difference {
     pub number: u64,
     pub kind: &'static str,
+    pub input: Vec<u8>,
     pub why: String,
 }
 
-/// Goes through these inputs; `enough` differences end it early.
+/// Goes through the inputs of these numbers; `enough` differences end it early.
 pub fn compare(
     settle: &Program,
     consulta: &Program,
+    inputs: &(dyn Fn(u64) -> Input + Sync),
     numbers: Range<u64>,
     enough: usize,
     folder: &Path,
@@ -90,14 +112,14 @@ pub fn compare(
                         break;
                     }
                     desk.number.store(number, Ordering::SeqCst);
-                    let (kind, input) = inputs::input(number);
+                    let (kind, input) = inputs(number);
                     let pieces = if number % PIECES_EVERY == 0 { 2 + (number / PIECES_EVERY % 3) as usize } else { 1 };
                     let events = program::events(&input);
                     let judged = judge(&mut runner, desk, [settle, consulta], &input, pieces, &events);
                     let (counts, differences) = &mut *found.lock().expect("no worker panics");
                     counts.add(&input, pieces, &events);
                     if let Err(why) = judged {
-                        differences.push(Difference { number, kind, why });
+                        differences.push(Difference { number, kind, input, why });
                         over.fetch_or(differences.len() >= enough, Ordering::SeqCst);
                     }
                 }
@@ -153,18 +175,11 @@ fn watch(desks: &[Desk], at_work: &AtomicUsize) {
 }
 
 /// The whole comparison: prints what it went through, and answers whether nothing differed.
-pub fn report(settle: &Program, consulta: &Program, count: u64, folder: &Path) -> Result<(), String> {
+pub fn report(settle: &Program, consulta: &Program, count: u64, listed: &[Input], folder: &Path) -> Result<(), String> {
     let start = Instant::now();
-    let (counts, differences) = compare(settle, consulta, 0..count, ENOUGH, folder)?;
-    for difference in &differences {
-        let path = folder.join(format!("input-{}.csv", difference.number));
-        std::fs::write(&path, inputs::input(difference.number).1).map_err(|why| why.to_string())?;
-        println!("input {} ({}), kept as {}: {}", difference.number, difference.kind, path.display(), difference.why);
-    }
-    if !differences.is_empty() {
-        return Err(format!("{} differences or more in {} inputs", differences.len(), counts.inputs));
-    }
-    let Counts { inputs, bytes, in_pieces, sizes, files, closed, with_credit, cells, refused } = counts;
+    let (counts, differences) = compare(settle, consulta, &inputs::input, 0..count, ENOUGH, folder)?;
+    no_differences("input", &counts, &differences, folder)?;
+    let Counts { inputs, bytes, in_pieces, sizes, line_ends, files, closed, with_credit, cells, refused } = counts;
     println!(
         "programs: {} inputs through each ({} bytes, {} inputs in pieces), {} files",
         inputs, bytes, in_pieces, files
@@ -174,6 +189,7 @@ pub fn report(settle: &Program, consulta: &Program, count: u64, folder: &Path) -
         "programs: {} inputs are empty, {} of 32,768 bytes, {} of 32,769, {} longer",
         empty, most, one_more, longer
     );
+    print_line_ends(line_ends);
     println!("programs: {} months closed ({} with credits held before), {} cells", closed, with_credit, cells);
     let by_number: Vec<String> = (1..13).map(|number| format!("{}: {}", number, refused[number])).collect();
     println!("programs: refusals by number {}", by_number.join(", "));
@@ -183,9 +199,37 @@ pub fn report(settle: &Program, consulta: &Program, count: u64, folder: &Path) -
     if unseen != [2, 4] {
         return Err(format!("refusals {:?} never came up, and 2 and 4 alone should not", unseen));
     }
-    if sizes.contains(&0) {
-        return Err("one of these sizes never came up".to_string());
+    if sizes.contains(&0) || line_ends.contains(&0) {
+        return Err("one of these sizes or line ends never came up".to_string());
     }
     println!("programs: 0 differences, {:.1} s", start.elapsed().as_secs_f64());
+
+    let start = Instant::now();
+    let one = |number: u64| listed[number as usize].clone();
+    let (counts, differences) = compare(settle, consulta, &one, 0..listed.len() as u64, ENOUGH, folder)?;
+    no_differences("listed", &counts, &differences, folder)?;
+    println!("programs: {} listed inputs through each, {} files", counts.inputs, counts.files);
+    print_line_ends(counts.line_ends);
+    println!("programs: 0 differences, {:.1} s", start.elapsed().as_secs_f64());
     Ok(())
+}
+
+fn print_line_ends([office, mixed, lone, astray]: [u64; 4]) {
+    println!(
+        "programs: {} inputs closed a month in CR LF, {} in LF and CR LF; {} were refused after a lone CR, {} at a CR",
+        office, mixed, lone, astray
+    );
+}
+
+/// Keeps each input on which something differed, as a file of this name and its number.
+fn no_differences(name: &str, counts: &Counts, differences: &[Difference], folder: &Path) -> Result<(), String> {
+    for Difference { number, kind, input, why } in differences {
+        let path = folder.join(format!("{}-{}.csv", name, number));
+        std::fs::write(&path, input).map_err(|why| why.to_string())?;
+        println!("{} {} ({}), kept as {}: {}", name, number, kind, path.display(), why);
+    }
+    if differences.is_empty() {
+        return Ok(());
+    }
+    Err(format!("{} differences or more in {} inputs", differences.len(), counts.inputs))
 }

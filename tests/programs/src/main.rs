@@ -1,12 +1,14 @@
 //! Holds the programs `settle` and `consulta` to the reference calculation.
 //!
-//! `compare SETTLE CONSULTA COUNT FOLDER` runs both on so many seeded inputs; `stand-ins COUNT FOLDER` shows that this
-//! finds wrong programs; `judge PROGRAM INPUT OUTPUT` looks at one output in a file. `input NUMBER` writes a seeded
-//! input, `largest` as many months of full size as are taken, `full` the month of `examples/full.csv`.
+//! `compare SETTLE CONSULTA COUNT FOLDER RUNS..` runs both on so many seeded inputs, and on those that are listed or
+//! stored as vectors; `stand-ins COUNT FOLDER` shows that this finds wrong programs; `judge PROGRAM INPUT OUTPUT` looks
+//! at one output in a file. `input NUMBER` writes a seeded input, `largest` as many months of full size as are taken,
+//! `office` as many as are taken in CR LF, `full` the month of `examples/full.csv`.
 
 mod child;
 mod compare;
 mod inputs;
+mod listed;
 mod rows;
 mod stand_in;
 
@@ -19,22 +21,24 @@ use std::io::Write;
 use std::path::Path;
 use std::process::ExitCode;
 
-const USAGE: &str = "usage: compare SETTLE CONSULTA COUNT FOLDER | stand-ins COUNT FOLDER | \
-    judge PROGRAM INPUT OUTPUT | input NUMBER | largest | full";
+const USAGE: &str = "usage: compare SETTLE CONSULTA COUNT FOLDER RUNS.. | stand-ins COUNT FOLDER | \
+    judge PROGRAM INPUT OUTPUT | input NUMBER | largest | office | full";
 
 fn main() -> ExitCode {
     let arguments: Vec<String> = std::env::args().skip(1).collect();
     let arguments: Vec<&str> = arguments.iter().map(String::as_str).collect();
     let done = match arguments[..] {
-        ["compare", settle, consulta, count, folder] => number(count).and_then(|count| {
-            compare::report(&vec![settle.to_string()], &vec![consulta.to_string()], count, Path::new(folder))
+        ["compare", settle, consulta, count, folder, ref runs @ ..] => number(count).and_then(|count| {
+            let programs = [vec![settle.to_string()], vec![consulta.to_string()]];
+            compare::report(&programs[0], &programs[1], count, &listed::inputs(runs)?, Path::new(folder))
         }),
         ["stand-ins", count, folder] => number(count).and_then(|count| stand_in::all_found(count, Path::new(folder))),
         ["stand-in", program, fault] => stand_in::print(program, fault).and_then(|output| write(&output)),
         ["input", at] => number(at).and_then(|at| write(&inputs::input(at).1)),
         ["judge", program, input, output] => judge(program, input, output),
         // Short lines, so that most files of full size fit, and most cells are broken.
-        ["largest"] => write(&inputs::full_of(&mut Rng::new(1), Style::Tiny)),
+        ["largest"] => write(&inputs::full_of(&mut Rng::new(1), Style::Tiny, inputs::in_lf)),
+        ["office"] => write(&inputs::full_of(&mut Rng::new(1), Style::Tiny, texts::cr_lf)),
         ["full"] => {
             let lines = months::sound_month(&mut Rng::new(2024), Style::Ordinary, inputs::FULL);
             write(&texts::file(&MonthLines { month: 202_407, ..lines }))

@@ -2,6 +2,7 @@
 //! find each of the others, or it shows nothing about the programs that it is meant for.
 
 use crate::compare::compare;
+use crate::inputs::input;
 use crate::rows;
 use rateio_reference::program::{self, events, Event, PROGRAM_CAPACITY, PROGRAM_INPUT};
 use rateio_reference::read::read_month;
@@ -15,7 +16,7 @@ use std::path::Path;
 pub const NO_FAULT: &str = "none";
 
 /// What is wrong, and whether only `consulta` can have it.
-const FAULTS: [(&str, bool); 20] = [
+const FAULTS: [(&str, bool); 24] = [
     ("cent moved round a ring", false),
     ("cent added to a cell", false),
     ("cells rounded one by one", false),
@@ -28,7 +29,11 @@ const FAULTS: [(&str, bool); 20] = [
     ("last line cut", false),
     ("last line missing", false),
     ("a line twice", false),
-    ("CR LF", false),
+    ("prints CR LF", false),
+    ("prints CR LF for CR LF", false),
+    ("takes a lone CR", false),
+    ("a lone CR at its own place", false),
+    ("refuses CR LF after names", false),
     ("stops at a refused month", false),
     ("takes less input", false),
     ("takes more input", false),
@@ -53,7 +58,8 @@ pub fn print(program: &str, fault: &str) -> Result<Vec<u8>, String> {
         eprintln!("settled");
     }
     let output = String::from_utf8(output).expect("outputs are ASCII");
-    Ok(faulty_lines(&output, fault).into_bytes())
+    let as_office = fault == "prints CR LF for CR LF" && input.windows(2).any(|pair| pair == b"\r\n");
+    Ok(faulty_lines(&output, if as_office { "prints CR LF" } else { fault }).into_bytes())
 }
 
 fn standard_input(once: bool) -> std::io::Result<Vec<u8>> {
@@ -85,6 +91,26 @@ fn faulty_events(input: &[u8], fault: &str) -> Vec<Event> {
                 found.extend(events(input).pop());
             }
             found
+        }
+        "takes a lone CR" => {
+            let lf_next = |at: usize| input.get(at + 1) == Some(&b'\n');
+            let taken = |at: usize| if input[at] == b'\r' && !lf_next(at) { b'\n' } else { input[at] };
+            events(&(0..input.len()).map(taken).collect::<Vec<u8>>())
+        }
+        "a lone CR at its own place" => {
+            let mut events = events(input);
+            if let Some(Event::Refused(Refusal { number: 11, place })) = events.last_mut() {
+                *place -= u64::from(*place > 0 && input[*place as usize - 1] == b'\r');
+            }
+            events
+        }
+        // Names end in a letter, and lines of values in a digit.
+        "refuses CR LF after names" => {
+            let mut input = input.to_vec();
+            if let Some(at) = input.windows(3).position(|end| end[0].is_ascii_lowercase() && end[1..] == *b"\r\n") {
+                input[at + 1] = b'x';
+            }
+            events(&input)
         }
         "stops at a refused month" => {
             let mut events = events(input);
@@ -140,7 +166,7 @@ fn faulty_lines(output: &str, fault: &str) -> String {
         "last line cut" => drop(lines[last].pop()),
         "last line missing" => drop(lines.pop()),
         "a line twice" => lines.push(lines[last].clone()),
-        "CR LF" => lines.iter_mut().for_each(|line| *line = line.replace('\n', "\r\n")),
+        "prints CR LF" => lines.iter_mut().for_each(|line| *line = line.replace('\n', "\r\n")),
         "cent moved between points" => {
             // The points have to be of one user, or its EUST would give it away.
             let user = |line: &String| line.split(',').nth(3).map(str::to_string);
@@ -169,7 +195,7 @@ pub fn all_found(count: u64, folder: &Path) -> Result<(), String> {
     let here = std::env::current_exe().map_err(|why| why.to_string())?.display().to_string();
     let stand_in = |program: &str, fault: &str| vec![here.clone(), "stand-in".into(), program.into(), fault.into()];
     let right = |program: &str| stand_in(program, NO_FAULT);
-    let (_, differences) = compare(&right("settle"), &right("consulta"), 0..count, 1, folder)?;
+    let (_, differences) = compare(&right("settle"), &right("consulta"), &input, 0..count, 1, folder)?;
     if let Some(difference) = differences.first() {
         return Err(format!("a right program fails at input {}: {}", difference.number, difference.why));
     }
@@ -180,7 +206,7 @@ pub fn all_found(count: u64, folder: &Path) -> Result<(), String> {
         let in_consulta = Some((right("settle"), stand_in("consulta", fault)));
         for (settle, consulta) in in_settle.into_iter().chain(in_consulta) {
             let program = if settle[3] == NO_FAULT { "consulta" } else { "settle" };
-            let (_, differences) = compare(&settle, &consulta, 0..count, 1, folder)?;
+            let (_, differences) = compare(&settle, &consulta, &input, 0..count, 1, folder)?;
             match differences.first() {
                 None => return Err(format!("{} with the fault {:?} is not found in {} inputs", program, fault, count)),
                 Some(found) => {

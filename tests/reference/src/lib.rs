@@ -1,14 +1,15 @@
 //! The settlement of the basic grid, worked out once more for the tests to compare the product with.
 //!
-//! Everything here follows the specification ("Rateio: monthly settlement of the basic grid") and the readings decided
-//! for its open points, and neither the product's definitions nor its code. Amounts are `i128`, so that no product of
-//! two of them needs two words, and nothing is arranged for speed beyond what the tests need.
+//! Everything here follows the specification ("Rateio: monthly settlement of the basic grid"), its change request Q-3
+//! and the readings decided for their open points, and neither the product's definitions nor its code. Amounts are
+//! `i128`, so that no product of two of them needs two words, and nothing is arranged for speed beyond what the tests
+//! need.
 //!
 //! | module | what it holds |
 //! |---|---|
 //! | `share` | the running share, and the share as C sees it |
 //! | `lines` | a month's lines |
-//! | `read` | the month file: reading one, checking a text of them |
+//! | `read` | the month file, its lines in LF or CR LF: reading one, checking a text of them |
 //! | `charges`, `credits`, `amounts` | the formulas, by user and by payee |
 //! | `refusals` | refusals 1 to 10 with their places |
 //! | `table` | what a table of cells is, one such table, all of them |
@@ -19,7 +20,7 @@
 //! | `output` | what both outputs have in common |
 //! | `sample` | the worked file and its output |
 //! | `json`, `vectors` | the vector files, and the comparison with them |
-//! | `rng`, `months`, `faults`, `texts` | seeded cases: months, what breaks them, files and damaged files |
+//! | `rng`, `months`, `faults`, `texts` | seeded cases: months, what breaks them, files in LF or CR LF, damaged files |
 
 pub mod amounts;
 pub mod charges;

@@ -1,4 +1,4 @@
-//! The month file ("The month file"; refusals 11 and 12).
+//! The month file ("The month file"; refusals 11 and 12; request Q-3, CR LF read as LF).
 //!
 //! The reader goes down the format with the byte at hand and never looks ahead. Each test below leaves the text the
 //! moment no accepted file could go on with the byte at hand, so the cursor then stands at the place of refusal 11.
@@ -6,10 +6,11 @@
 use crate::lines::{Agent, MonthLines, Point, User};
 use crate::refusals::Refusal;
 
-pub const MONTH_NAMES: &str = "month,ons\n";
-pub const AGENT_NAMES: &str = "agent,pb,pv,afs,rfs,pa,ret\n";
-pub const USER_NAMES: &str = "user,kind,ret\n";
-pub const POINT_NAMES: &str = "at,tp,tf,dp,df,mp,mf,vp,vf\n";
+/// The names of each block, without their line's end.
+pub const MONTH_NAMES: &str = "month,ons";
+pub const AGENT_NAMES: &str = "agent,pb,pv,afs,rfs,pa,ret";
+pub const USER_NAMES: &str = "user,kind,ret";
+pub const POINT_NAMES: &str = "at,tp,tf,dp,df,mp,mf,vp,vf";
 
 /// Digits of a value, not counting its minus sign.
 const MAX_DIGITS: usize = 18;
@@ -100,8 +101,19 @@ impl<'a> Cursor<'a> {
         Ok(())
     }
 
+    /// The end of a line, of names or of values: LF, or CR LF. Where it is due a CR is in order, since an accepted file
+    /// has one there; so a CR without its LF is a fault at the byte after it.
+    fn line_end(&mut self) -> Result<(), Refusal> {
+        if self.here() == Some(b'\r') {
+            self.at += 1;
+        }
+        self.byte(b'\n')
+    }
+
+    /// A line of names.
     fn names(&mut self, names: &str) -> Result<(), Refusal> {
-        names.bytes().try_for_each(|wanted| self.byte(wanted))
+        names.bytes().try_for_each(|wanted| self.byte(wanted))?;
+        self.line_end()
     }
 
     /// A block: its names, then lines for as long as one begins.
@@ -117,7 +129,7 @@ impl<'a> Cursor<'a> {
         Ok(lines)
     }
 
-    /// A line of values: commas between them, LF after the last.
+    /// A line of values, with commas between them.
     fn line<const COLUMNS: usize>(&mut self) -> Result<[i64; COLUMNS], Refusal> {
         let mut values = [0; COLUMNS];
         for (column, value) in values.iter_mut().enumerate() {
@@ -126,7 +138,7 @@ impl<'a> Cursor<'a> {
             }
             *value = self.value()?;
         }
-        self.byte(b'\n')?;
+        self.line_end()?;
         Ok(values)
     }
 

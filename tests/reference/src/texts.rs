@@ -6,17 +6,19 @@ use crate::months::{self, Counts, STYLES};
 use crate::read::{AGENT_NAMES, MONTH_NAMES, POINT_NAMES, USER_NAMES};
 use crate::rng::Rng;
 
-/// The file that holds these lines.
+/// The file that holds these lines, each of which ends in LF.
 pub fn file(lines: &MonthLines) -> Vec<u8> {
-    let mut text = String::from(MONTH_NAMES);
+    let mut text = format!("{}\n", MONTH_NAMES);
     push_line(&mut text, &[lines.month, lines.ons]);
-    text.push_str(AGENT_NAMES);
-    lines.agents.iter().for_each(|agent| push_line(&mut text, &agent.columns()));
-    text.push_str(USER_NAMES);
-    lines.users.iter().for_each(|user| push_line(&mut text, &user.columns()));
-    text.push_str(POINT_NAMES);
-    lines.points.iter().for_each(|point| push_line(&mut text, &point.columns()));
+    push_block(&mut text, AGENT_NAMES, lines.agents.iter().map(Agent::columns));
+    push_block(&mut text, USER_NAMES, lines.users.iter().map(User::columns));
+    push_block(&mut text, POINT_NAMES, lines.points.iter().map(Point::columns));
     text.into_bytes()
+}
+
+fn push_block<const COLUMNS: usize>(text: &mut String, names: &str, lines: impl Iterator<Item = [i64; COLUMNS]>) {
+    text.push_str(&format!("{}\n", names));
+    lines.for_each(|line| push_line(text, &line));
 }
 
 fn push_line(text: &mut String, values: &[i64]) {
@@ -28,6 +30,44 @@ fn push_line(text: &mut String, values: &[i64]) {
 /// The files of these months on end.
 pub fn files(months: &[MonthLines]) -> Vec<u8> {
     months.iter().flat_map(file).collect()
+}
+
+/// The LFs of a text that no CR comes before.
+pub fn bare_lfs(text: &[u8]) -> Vec<usize> {
+    (0..text.len()).filter(|&at| text[at] == b'\n' && (at == 0 || text[at - 1] != b'\r')).collect()
+}
+
+/// The text with a CR put in before each of these bytes, given in their order.
+pub fn with_crs(text: &[u8], before: &[usize]) -> Vec<u8> {
+    let mut longer = Vec::with_capacity(text.len() + before.len());
+    let mut copied = 0;
+    for &at in before {
+        longer.extend(&text[copied..at]);
+        longer.push(b'\r');
+        copied = at;
+    }
+    longer.extend(&text[copied..]);
+    longer
+}
+
+/// The text with CR LF for LF, as office machines save it.
+pub fn cr_lf(text: &[u8]) -> Vec<u8> {
+    with_crs(text, &bare_lfs(text))
+}
+
+/// The text with CR LF for LF line by line as it comes.
+pub fn mixed(rng: &mut Rng, text: &[u8]) -> Vec<u8> {
+    let some: Vec<usize> = bare_lfs(text).into_iter().filter(|_| rng.chance(50)).collect();
+    with_crs(text, &some)
+}
+
+/// The text as it is, in CR LF, or mixed.
+pub fn any_ends(rng: &mut Rng, text: &[u8]) -> Vec<u8> {
+    match rng.below(4) {
+        0 => cr_lf(text),
+        1 => mixed(rng, text),
+        _ => text.to_vec(),
+    }
 }
 
 /// Lines with any value that a file can hold, limits being closing's matter.
@@ -51,7 +91,7 @@ pub fn any_values(rng: &mut Rng, counts: Counts) -> MonthLines {
 }
 
 /// What people and programs put into such files by mistake.
-const PIECES: [&[u8]; 26] = [
+const PIECES: [&[u8]; 29] = [
     b"",
     b"0",
     b"00",
@@ -68,7 +108,10 @@ const PIECES: [&[u8]; 26] = [
     b",,",
     b"\n",
     b"\n\n",
+    b"\r",
     b"\r\n",
+    b"\r\r\n",
+    b"\n\r",
     b"\t",
     b"m",
     b"month,ons\n",
@@ -97,9 +140,9 @@ fn damage(rng: &mut Rng, text: &mut Vec<u8>) {
     let until = (at + rng.below(12)).min(text.len());
     match rng.below(9) {
         0 => text[at] = rng.bits() as u8,
-        1 => text[at] = rng.pick(b"0123456789-,\nma"),
+        1 => text[at] = rng.pick(b"0123456789-,\n\rma"),
         2 => drop(text.drain(at..at + 1)),
-        3 => text.insert(at, rng.pick(b"0123456789-,\nma")),
+        3 => text.insert(at, rng.pick(b"0123456789-,\n\rma")),
         4 => text.truncate(at),
         5 => drop(text.splice(at..until, rng.pick(&PIECES).to_vec())),
         6 => drop(text.splice(at..at, rng.pick(&PIECES).to_vec())),
@@ -150,6 +193,7 @@ pub fn run_input(rng: &mut Rng, most: Counts) -> Vec<u8> {
         }
         input.extend(file(&lines));
     }
+    input = any_ends(rng, &input);
     if rng.chance(15) {
         input = damaged(rng, &input);
     }

@@ -1,5 +1,6 @@
 //! The comparison with the vector files, one function a file: how many cases agree, or the first that does not.
 
+use crate::amounts::Amounts;
 use crate::json::{self, Json};
 use crate::ledger::{self, Ledger};
 use crate::lines::{Agent, MonthLines, Point, User};
@@ -12,12 +13,13 @@ use crate::table::is_table;
 /// A file's name and the comparison of one of its lines.
 pub type VectorFile = (&'static str, fn(&Json) -> Result<(), String>);
 
-pub const VECTOR_FILES: [VectorFile; 5] = [
+pub const VECTOR_FILES: [VectorFile; 6] = [
     ("shares.jsonl", share),
     ("openings.jsonl", opening),
     ("closings.jsonl", closing),
     ("readings.jsonl", reading),
     ("runs.jsonl", run),
+    ("runs-Q3.jsonl", run_in_full),
 ];
 
 /// Compares every line of a file's text; the answer is their count.
@@ -89,6 +91,19 @@ fn closing(vector: &Json) -> Result<(), String> {
     };
     let expect = field(expect, "accepted")?;
     let (charges, credits) = (&amounts.charges, &amounts.credits);
+    every_amount(&amounts, expect)?;
+    same("ledger", &moved, &Ledger { month: lines.month, ..ledger })?;
+    let users = lines.users.len();
+    let new: Vec<i128> = after[..users].iter().map(|&credit| credit.into()).collect();
+    same("new held credits", &new, &charges.held)?;
+    same("held entries beyond", &after[users..], &held[users..])?;
+    let (table, beyond) = cells.split_at(credits.vc.len() * users);
+    is_table(&credits.vc, &charges.vd, table)?;
+    same("cells beyond", &beyond.iter().all(|&cell| cell == MARK), &true)
+}
+
+/// Every amount of a month by its name in the vector files.
+fn every_amount(Amounts { charges, credits }: &Amounts, expect: &Json) -> Result<(), String> {
     let lists = [
         ("eust", &charges.eust),
         ("overrun", &charges.overrun),
@@ -105,19 +120,11 @@ fn closing(vector: &Json) -> Result<(), String> {
     for (name, amounts) in lists {
         same(name, amounts, &numbers(field(expect, name)?)?)?;
     }
-    same("smse", &credits.smse, &whole(expect, "smse")?)?;
-    same("ledger", &moved, &Ledger { month: lines.month, ..ledger })?;
-    let users = lines.users.len();
-    let new: Vec<i128> = after[..users].iter().map(|&credit| credit.into()).collect();
-    same("new held credits", &new, &charges.held)?;
-    same("held entries beyond", &after[users..], &held[users..])?;
-    let (table, beyond) = cells.split_at(credits.vc.len() * users);
-    is_table(&credits.vc, &charges.vd, table)?;
-    same("cells beyond", &beyond.iter().all(|&cell| cell == MARK), &true)
+    same("smse", &credits.smse, &whole(expect, "smse")?)
 }
 
 fn reading(vector: &Json) -> Result<(), String> {
-    let text = field(vector, "text")?.text().ok_or("text is no text")?;
+    let text = text_of(vector)?;
     let [agents, users, points]: [usize; 3] = row(field(vector, "capacity")?)?;
     let answer = read_month(text, whole(vector, "position")?, Capacity { agents, users, points });
     same("check", &check_text(text), &whole(vector, "check")?)?;
@@ -132,7 +139,7 @@ fn reading(vector: &Json) -> Result<(), String> {
 }
 
 fn run(vector: &Json) -> Result<(), String> {
-    let text = field(vector, "text")?.text().ok_or("text is no text")?;
+    let text = text_of(vector)?;
     let expected: Vec<Told> = each(field(vector, "events")?, event)?;
     let found: Vec<Told> = events(text).into_iter().map(told).collect();
     same("events", &found, &expected)?;
@@ -157,6 +164,42 @@ fn event(event: &Json) -> Result<Told, String> {
     }
     let list = |name: &str| field(event, name).and_then(numbers);
     Ok(Ok((whole(event, "month")?, list("vc")?, list("vd")?, list("held")?)))
+}
+
+/// The number of a closed month's fields in a run told in full: month, the twelve of every amount, `use` and `credit`.
+const TOLD_IN_FULL: usize = 15;
+
+/// A run of which each closed month is told with every amount. Without contracts a user's EUST is its use of the grid,
+/// and without direct charges a payee's credit is its VC.
+fn run_in_full(vector: &Json) -> Result<(), String> {
+    let text = text_of(vector)?;
+    let expected = field(vector, "events")?.list().ok_or("events is no list")?;
+    let found = events(text);
+    same("number of events", &found.len(), &expected.len())?;
+    for (found, expected) in found.iter().zip(expected) {
+        let closed = match found {
+            Event::Refused(refused) => {
+                same("refusal", &Some(*refused), &refusal(field(expected, "refused")?)?)?;
+                continue;
+            }
+            Event::Closed(closed) => closed,
+        };
+        let fields = match expected {
+            Json::Record(fields) => fields.len(),
+            _ => 0,
+        };
+        same("number of fields", &fields, &TOLD_IN_FULL)?;
+        same("month", &closed.month(), &whole(expected, "month")?)?;
+        every_amount(&closed.amounts, expected)?;
+        same("use", &closed.amounts.charges.eust, &numbers(field(expected, "use")?)?)?;
+        same("credit", &closed.amounts.credits.vc, &numbers(field(expected, "credit")?)?)?;
+    }
+    check_run(text, &settle(text))
+}
+
+/// The text of a vector: what is read, or the program's input.
+pub fn text_of(vector: &Json) -> Result<&[u8], String> {
+    Ok(field(vector, "text")?.text().ok_or("text is no text")?)
 }
 
 fn month_lines(record: &Json) -> Result<MonthLines, String> {

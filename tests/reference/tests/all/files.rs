@@ -28,9 +28,11 @@ fn is_files(text: &[u8]) -> bool {
     let (mut block, mut lines) = (3, 0);
     let mut begun = false;
     for line in text.split('\n') {
+        // "CR LF, which is now read as LF": one CR before the LF says nothing, and any other one is no part of a line.
+        let line = line.strip_suffix('\r').unwrap_or(line);
         let next = (block + 1) % 4;
         let month_line_due = begun && block == 0 && lines == 0;
-        if format!("{}\n", line) == blocks[next].0 && !month_line_due {
+        if line == blocks[next].0 && !month_line_due {
             (block, lines, begun) = (next, 0, true);
         } else {
             let values: Vec<&str> = line.split(',').collect();
@@ -47,15 +49,15 @@ fn is_files(text: &[u8]) -> bool {
 
 /// Endings, of which one fits whatever a text may be in the middle of.
 fn endings() -> Vec<Vec<u8>> {
-    let whole = format!("{}1,1\n{}{}{}", MONTH_NAMES, AGENT_NAMES, USER_NAMES, POINT_NAMES);
-    // In names, or at the start of a line.
+    let whole = format!("{}\n1,1\n{}\n{}\n{}\n", MONTH_NAMES, AGENT_NAMES, USER_NAMES, POINT_NAMES);
+    // In names, at the start of a line, or after a CR.
     let mut endings: Vec<Vec<u8>> = (0..=whole.len()).map(|from| whole.as_bytes()[from..].to_vec()).collect();
     // In a line of values, with up to eight more values to come.
-    let blocks = ["", POINT_NAMES, USER_NAMES, AGENT_NAMES];
+    let blocks = [POINT_NAMES, USER_NAMES, AGENT_NAMES];
     for value in ["", "1"] {
         for more in 0..=8 {
-            for left in 0..blocks.len() {
-                let names: String = blocks[..=left].iter().rev().copied().collect();
+            for left in 0..=blocks.len() {
+                let names: String = blocks[..left].iter().rev().map(|names| names.to_string() + "\n").collect();
                 endings.push(format!("{}{}\n{}", value, ",1".repeat(more), names).into_bytes());
             }
         }
@@ -99,14 +101,21 @@ fn check_place(text: &[u8], endings: &[Vec<u8>]) {
 #[test]
 fn places_of_one_wrong_byte() {
     let endings = endings();
-    let text = sample::INPUT.as_bytes();
-    for at in 0..text.len() {
-        for byte in *b"019-,\nmua \r\0\xff" {
-            let mut changed = text.to_vec();
-            changed[at] = byte;
-            check_place(&changed, &endings);
+    let lf = sample::INPUT.as_bytes();
+    for text in [lf.to_vec(), texts::cr_lf(lf), texts::mixed(&mut Rng::new(30), lf)] {
+        for at in 0..text.len() {
+            for byte in *b"019-,\nmua \r\0\xff" {
+                let mut changed = text.to_vec();
+                changed[at] = byte;
+                check_place(&changed, &endings);
+            }
+            for byte in *b"\r\n" {
+                let mut longer = text.to_vec();
+                longer.insert(at, byte);
+                check_place(&longer, &endings);
+            }
+            check_place(&text[..at], &endings);
         }
-        check_place(&text[..at], &endings);
     }
 }
 
@@ -123,7 +132,8 @@ fn places_in_damaged_texts() {
                 texts::any_values(&mut rng, counts)
             })
             .collect();
-        let text = texts::damaged(&mut rng, &texts::files(&months));
+        let text = texts::any_ends(&mut rng, &texts::files(&months));
+        let text = texts::damaged(&mut rng, &text);
         check_place(&text, &endings);
         sound += usize::from(check_text(&text) == -1);
     }
@@ -146,14 +156,16 @@ fn small_faults_of_values() {
         ("1234567890123456789", 18),
         ("-1234567890123456789", 19),
         ("\u{2212}1", 0),
-        ("1\r", 1),
+        ("1\r1", 2),
+        ("\r1", 0),
+        ("-\r1", 1),
     ] {
         let start = "month,ons\n202407,";
-        let text = format!("{}{}\n{}{}{}", start, value, AGENT_NAMES, USER_NAMES, POINT_NAMES);
+        let text = format!("{}{}\n{}\n{}\n{}\n", start, value, AGENT_NAMES, USER_NAMES, POINT_NAMES);
         assert_eq!(check_text(text.as_bytes()), (start.len() + place) as i64, "{:?}", value);
     }
     for value in ["0", "1", "-1", "999999999999999999", "-999999999999999999", "100000000000000000"] {
-        let text = format!("month,ons\n{},{}\n{}{}{}", value, value, AGENT_NAMES, USER_NAMES, POINT_NAMES);
+        let text = format!("month,ons\n{},{}\n{}\n{}\n{}\n", value, value, AGENT_NAMES, USER_NAMES, POINT_NAMES);
         let (lines, next) = read_month(text.as_bytes(), 0, ANY_COUNT).expect("a sound file");
         assert_eq!((lines.month.to_string(), lines.ons.to_string()), (value.to_string(), value.to_string()));
         assert_eq!(next, text.len());
@@ -170,7 +182,7 @@ fn small_faults_of_values() {
 
 #[test]
 fn what_may_follow_a_file() {
-    let no_points = format!("month,ons\n1,1\n{}{}{}", AGENT_NAMES, USER_NAMES, POINT_NAMES);
+    let no_points = format!("month,ons\n1,1\n{}\n{}\n{}\n", AGENT_NAMES, USER_NAMES, POINT_NAMES);
     for file in [sample::INPUT, &no_points] {
         for byte in 0..=u8::MAX {
             let text = [file.as_bytes(), &[byte]].concat();
@@ -196,7 +208,7 @@ fn what_was_written_is_read() {
                 texts::any_values(&mut rng, counts)
             })
             .collect();
-        let text = texts::files(&months);
+        let text = texts::any_ends(&mut rng, &texts::files(&months));
         assert_eq!(check_text(&text), -1);
         let mut position = 0;
         for month in &months {
@@ -242,7 +254,7 @@ fn eleven_or_twelve_whichever_comes_first() {
     let mut seen = [0; 3];
     for _ in 0..4_000 {
         let months: Vec<_> = (0..2).map(|_| texts::any_values(&mut rng, SMALL)).collect();
-        let mut text = texts::files(&months);
+        let mut text = texts::any_ends(&mut rng, &texts::files(&months));
         if rng.chance(60) {
             text = texts::damaged(&mut rng, &text);
         }
@@ -271,7 +283,7 @@ fn eleven_or_twelve_whichever_comes_first() {
 #[test]
 fn a_full_slice() {
     let none = Capacity { agents: 0, users: 0, points: 0 };
-    let start = format!("month,ons\n1,1\n{}", AGENT_NAMES);
+    let start = format!("month,ons\n1,1\n{}\n", AGENT_NAMES);
     let place = start.len() as u64;
     // A line of values begins at a digit or minus sign, faulty or not; at any other byte only 11 can apply.
     for (line, number) in [("1", 12), ("0", 12), ("-", 12), ("-x", 12), ("00", 12), ("x", 11), (" 1", 11), ("", 11)] {
@@ -279,7 +291,7 @@ fn a_full_slice() {
         assert_eq!(read_month(text.as_bytes(), 0, none), Err(Refusal::new(number, place)), "{:?}", line);
     }
     // With no lines to take, slices without entries do.
-    let text = format!("{}{}{}", start, USER_NAMES, POINT_NAMES);
+    let text = format!("{}{}\n{}\n", start, USER_NAMES, POINT_NAMES);
     assert!(read_month(text.as_bytes(), 0, none).is_ok());
 }
 

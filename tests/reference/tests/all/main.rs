@@ -5,6 +5,7 @@ mod by_hand;
 mod closings;
 mod consulta;
 mod files;
+mod line_ends;
 mod runs;
 mod tables;
 mod vectors;

@@ -37,6 +37,11 @@ fn runs() {
 }
 
 #[test]
+fn runs_after_request_3() {
+    file("runs-Q3.jsonl", 60);
+}
+
+#[test]
 fn json_is_read_as_written() {
     let read = json::parse(r#" {"a": [1, -20 ,null], "text":"x\n\"\\\u00e2\u0000é" , "none":[],"empty":{}} "#);
     let record = read.expect("sound JSON");
@@ -58,4 +63,17 @@ fn a_wrong_case_is_found() {
     let (_, share) = VECTOR_FILES[0];
     assert_eq!(compare("[30,0,300,2000,4]\n", share), Ok(1));
     assert!(compare("[30,0,300,2000,5]\n", share).is_err());
+    // Every amount of a run that is told in full, of each closed month.
+    let (name, run) = VECTOR_FILES[5];
+    let path = format!("{}/../vectors/{}", env!("CARGO_MANIFEST_DIR"), name);
+    let text = std::fs::read_to_string(&path).expect("the vector file is there");
+    let line = text.lines().find(|line| line.starts_with("{\"name\":\"orders")).expect("a run of closed months");
+    assert_eq!(compare(line, run), Ok(1));
+    let (_, events) = line.split_once("\"events\":").expect("events");
+    for (at, _) in events.match_indices(|byte: char| byte.is_ascii_digit()) {
+        let at = line.len() - events.len() + at;
+        let digit = if &line[at..=at] == "7" { "8" } else { "7" };
+        let wrong = [&line[..at], digit, &line[at + 1..]].concat();
+        assert!(compare(&wrong, run).is_err(), "{}", wrong);
+    }
 }

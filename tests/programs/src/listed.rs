@@ -1,0 +1,61 @@
+//! Inputs that are listed one by one: a CR at every place, the longest input in CR LF, and the stored runs.
+
+use crate::inputs::{exact, in_turn, Ends, Input};
+use rateio_reference::program::PROGRAM_INPUT;
+use rateio_reference::rng::Rng;
+use rateio_reference::vectors::{self, VECTOR_FILES};
+use rateio_reference::{json, sample, texts};
+use std::path::Path;
+
+/// All of them; `runs` are vector files of runs.
+pub fn inputs(runs: &[&str]) -> Result<Vec<Input>, String> {
+    let mut inputs = cr_at_every_place();
+    inputs.extend(longest());
+    for path in runs {
+        inputs.extend(stored(path)?.into_iter().map(|input| ("a stored run", input)));
+    }
+    Ok(inputs)
+}
+
+/// The worked file twice, in LF, in CR LF and in turn; where its text is sound the second is refused for its month.
+fn cr_at_every_place() -> Vec<Input> {
+    let lf = sample::INPUT.as_bytes();
+    let mut inputs = Vec::new();
+    for file in [lf.to_vec(), texts::cr_lf(lf), in_turn(lf)] {
+        let text = [&file[..], &file[..]].concat();
+        inputs.push(("the worked file twice", text.clone()));
+        // In the second file the start and the end will do.
+        let places = (0..=file.len() + 12).chain(text.len() - 3..=text.len());
+        inputs.extend(places.map(|at| ("a CR at every place", texts::with_crs(&text, &[at]))));
+    }
+    inputs
+}
+
+/// Sound months of as many bytes as are taken: every CR counts, so what fits in LF may not in CR LF.
+fn longest() -> Vec<Input> {
+    let mut rng = Rng::new(32_768);
+    let mut inputs = Vec::new();
+    for ends in [texts::cr_lf as Ends, in_turn] {
+        let most = exact(&mut rng, PROGRAM_INPUT, ends);
+        inputs.push(("a CR more than is taken", texts::with_crs(&most, &[most.len()])));
+        inputs.push(("the longest input in CR LF", most));
+    }
+    let one_less = exact(&mut rng, PROGRAM_INPUT - 1, <[u8]>::to_vec);
+    let lfs = texts::bare_lfs(&one_less);
+    let last = lfs[lfs.len() - 1];
+    inputs.push(("the longest input by one CR", texts::with_crs(&one_less, &[last])));
+    inputs.push(("a CR more than is taken", texts::with_crs(&one_less, &[lfs[0], last])));
+    inputs.push(("too long in CR LF alone", texts::cr_lf(&one_less)));
+    inputs.push(("not too long in LF", one_less));
+    inputs
+}
+
+/// The inputs of a vector file of runs, on each of which the reference calculation agrees with what is stored.
+fn stored(path: &str) -> Result<Vec<Vec<u8>>, String> {
+    let name = Path::new(path).file_name().unwrap_or_default();
+    let (_, case) =
+        VECTOR_FILES.into_iter().find(|file| file.0 == name).ok_or_else(|| format!("no vectors {}", path))?;
+    let text = std::fs::read_to_string(path).map_err(|why| format!("{}: {}", path, why))?;
+    vectors::compare(&text, case).map_err(|why| format!("{}, {}", path, why))?;
+    text.lines().map(|line| json::parse(line).and_then(|run| Ok(vectors::text_of(&run)?.to_vec()))).collect()
+}
