@@ -73,8 +73,9 @@ int64_t rateio_share(int64_t p, int64_t before, int64_t through, int64_t w);
  * once.
  *
  * Where a line may end a CR is in order, so the place of a lone one is the byte after it that is not LF, or the text's
- * length; anywhere else the place is the CR's. With CRs put before LFs that had none the answer stays RATEIO_CHECK_FILES,
- * or the place moves by the CRs put before it (a text grown over the limit apart).
+ * length; anywhere else the place is the CR's. If CRs are put before LFs that had none, RATEIO_CHECK_FILES stays, and a
+ * place moves by the CRs put before earlier bytes: one put right before the byte at the place stands there now, and is the
+ * wrong byte (a text grown over the limit apart).
  */
 int64_t rateio_check(const uint8_t *text, size_t length);
 

@@ -128,7 +128,7 @@ module _ (r : Slices) (t : List ℕ) (from : ℕ) where
   stands : (f : File) (n : ℕ) → Read r t from f n → Stands r s
   stands f n x = record { file = f; ends = x .ends; rest = x .rest; fits = x .fits; follows = x .follows; is = x .is }
 
-  -- where a file is read, one text of it stands and what follows is what is left
+  -- two readings at one position have the same file and the same next position
   same-read : (f g : File) (n o : ℕ) → Read r t from f n → Read r t from g o → (f ≡ g) × (n ≡ o)
   same-read f g n o x y =
       let e = one-reading r (x .ends) (y .ends) f g (x .rest) (y .rest) (x .fits) (y .fits) (x .follows) (y .follows) (sym (x .is) ∙ y .is) in

@@ -28,7 +28,7 @@ module _ (g : List Item → List Item) where
   with-cond true x y x' y' d e = d
   with-cond false x y x' y' d e = e
 
-  -- a byte of a value leaves the items as they are
+  -- a byte of a value leaves the items as they are, but for the LF after a CR
   module _ (fed : (f : List Item) → g (byte lf ∷ f) ≡ byte lf ∷ g f) (b : ℕ) where
     with-lead : (k : ℕ) (f : List Item) → lead k (g f) b ≡ with g (lead k f b)
     with-lead k f = with-cond (isLead b) (value (digits 1) k f) stuck _ _ refl refl

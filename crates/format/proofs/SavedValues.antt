@@ -1,5 +1,5 @@
--- THE VALUES OF A SAVED TEXT: without its CRs a file's text is the one with LF alone, and a saved text is the text saved; so both are read
--- to the same file. Assumes nothing.
+-- THE VALUES OF A SAVED TEXT: without its CRs a file's text is the one with LF alone, and a text and the same text saved are equal without
+-- their CRs; so both are read to the same file. Assumes nothing.
 use Prim.Native.Nat.{ℕ}
 use mathlib.Core.Path.{_≡_, refl, ap, sym, _∙_, subst}
 use mathlib.Core.Bool.{Bool, true, false, cond}

@@ -34,7 +34,7 @@ pub line-more : (e : LineEnd) (v w : List ℕ) (vs : List (List ℕ)) → line e
 unfolding line more
 line-more e v w vs = append-assoc v (comma ∷ (w ++ more vs)) (lineEnd e)
 
--- the ends of lines in their order; a line past the end of the list ends in LF, so that none named is LF alone
+-- the ends of lines in their order; a line past the end of the list ends in LF, so the empty list is LF throughout
 abbrev pub Ends : Type 0
 Ends = List LineEnd
 

@@ -37,8 +37,8 @@ pub data Part : Type 0 where
   nought : Part
   digits : ℕ → Part
 
--- where a text stands: no file goes on so; between lines or in a line of names, with the items still to come; in a value, with so many
--- values after it on its line, and the items that come after the line
+-- where a text stands: no file goes on so; between lines, in a line of names or after the CR of a line's end, with the items still to
+-- come; in a value, with so many values after it on its line, and the items that come after the line
 pub data State : Type 0 where
   stuck : State
   at : List Item → State
@@ -70,7 +70,7 @@ inValue signed k f b = lead k f b
 inValue nought k f b = ends k f b
 inValue (digits n) k f b = cond (isDigit b) (cond (ltb n 18) (value (digits (n + 1)) k f) stuck) (ends k f b)
 
--- between lines or in a line of names: where lines may follow, a digit or minus sign begins one, and any other byte the names after them
+-- outside values: where lines may follow, a digit or minus sign begins one, and any other byte the names after them
 unfoldable pub enter : List Item → ℕ → State
 enter [] b = stuck
 enter (byte c ∷ f) b = cond (eqb b c) (at f) stuck

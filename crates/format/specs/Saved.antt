@@ -18,7 +18,8 @@ pub data Added : ℕ → List ℕ → List ℕ → Type 0 where
 abbrev pub Saved : List ℕ → List ℕ → Type 0
 Saved t u = Added lf t u
 
--- how many CRs were added before a place of t
+-- how many CRs were added before the bytes that come before a place of t; one added right before the byte at the place stands there now,
+-- and is not counted
 unfoldable pub crsBefore : {last : ℕ} {t u : List ℕ} → Added last t u → ℕ → ℕ
 crsBefore (over last) p = 0
 crsBefore (kept last b t u c) zero = 0

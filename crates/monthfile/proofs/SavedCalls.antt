@@ -11,10 +11,12 @@ use Rattle.format.specs.Grammar.{File}
 use Rattle.format.specs.Reading.{ReadingAnswer, accepted, refused, reading}
 use Rattle.format.specs.Saved.{Saved, moved, movedAnswer, movedNumber}
 use Rattle.format.proofs.SavedReads.{same-reading, same-check}
-use Rattle.monthfile.specs.Reads.{answered, after, asLines, asPoints, Gives, Reads}
+use Rattle.monthfile.specs.Reads.{answered, after, asLines, asPoints, nextOf, Gives, Reads}
 use Rattle.monthfile.specs.Demand1.{ReadCall, room}
 use Rattle.monthfile.specs.Saved.{movedReading, SavedCall, SameOfSaved}
-use Rattle.monthfile.proofs.Demand1.{FileChecked, LinesRead, ReadAt, ReaderRead, linesCall, atCall, readerCall}
+use Rattle.monthfile.specs.declared.reading.Reading.{Reading}
+use Rattle.monthfile.specs.declared.reading.Reading.the-variants.{Accepted, Refused}
+use Rattle.monthfile.proofs.Demand1.{FileChecked, LinesRead, ReadAt, ReaderRead, linesCall, atCall, readerCall, position, goes}
 
 -- THE FILE CHECK: the same −1, or the place moved; the saved text's length is within its limit
 pub saved-check :
@@ -75,5 +77,20 @@ saved-read-lines c d l = same-of-saved asLines (linesCall c) (linesCall d) l (c 
 pub saved-read-at : (c d : ReadAt) (l : SavedCall (atCall c) (atCall d)) → SameOfSaved (atCall c) (atCall d) (l .saved)
 saved-read-at c d l = same-of-saved asPoints (atCall c) (atCall d) l (c .learnt) (d .learnt)
 
-pub saved-read : (c d : ReaderRead) (l : SavedCall (readerCall c) (readerCall d)) → SameOfSaved (readerCall c) (readerCall d) (l .saved)
-saved-read c d l = same-of-saved asPoints (readerCall c) (readerCall d) l (c .learnt .0) (d .learnt .0)
+-- where the position goes by an answer that has moved
+next-moved : {t u : List ℕ} (s : Saved t u) (r : Reading) (from : ℕ) → nextOf (movedReading s r) (moved s from) ≡ moved s (nextOf r from)
+next-moved s (Accepted h) from = refl
+next-moved s (Refused number place) from = refl
+
+-- the reader's position moves along
+pub saved-read :
+    (c d : ReaderRead) (l : SavedCall (readerCall c) (readerCall d))
+    → SameOfSaved (readerCall c) (readerCall d) (l .saved) × (position d ≡ moved (l .saved) (position c))
+saved-read c d l =
+    let same = same-of-saved asPoints (readerCall c) (readerCall d) l (c .learnt .0) (d .learnt .0) in (
+      same,
+      goes d _ (same .answer)
+          ∙ ap (nextOf (movedReading (l .saved) (c .result))) (l .from)
+          ∙ next-moved (l .saved) (c .result) (readerCall c .from)
+          ∙ ap (moved (l .saved)) (sym (goes c (c .result) refl)),
+    )

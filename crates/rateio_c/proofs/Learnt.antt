@@ -47,10 +47,11 @@ check-learnt κs a r last l = subst (λ (x : ℤ). Checked (now (a .0)) x) (sym 
 
 -- THE LAW OF THE SAVED FILE (paper 02, Q-3) of two calls: with CRs added before LFs the same −1, or the place moved
 pub check-saved :
-    (κs : Lfts 1) (a b : Args check.signature κs) (r s : Res check.signature κs) (last : Lasts check.ended κs a) (last′ : Lasts check.ended κs b)
+    (κs : Lfts 1) (a : Args check.signature κs) (r : Res check.signature κs) (last : Lasts check.ended κs a)
+    (κs′ : Lfts 1) (b : Args check.signature κs′) (s : Res check.signature κs′) (last′ : Lasts check.ended κs′ b)
     → check-reads.Learnt κs a r (atExit check.ended κs a last)
-    → check-reads.Learnt κs b s (atExit check.ended κs b last′)
+    → check-reads.Learnt κs′ b s (atExit check.ended κs′ b last′)
     → (c : Saved (now (a .0)) (now (b .0)))
     → length (now (b .0)) ≤ 1_000_000_000_000_000
     → s ≡ movedNumber c r
-check-saved κs a b r s last last′ l l′ c h = l′ ∙ same-check (now (a .0)) (now (b .0)) c h ∙ ap (movedNumber c) (sym l)
+check-saved κs a r last κs′ b s last′ l l′ c h = l′ ∙ same-check (now (a .0)) (now (b .0)) c h ∙ ap (movedNumber c) (sym l)
