@@ -84,7 +84,14 @@ lone-crs = refl
 -- at any other place the CR is refused: in a name; before a line's last value is complete; at a line's start; after a file
 stray-crs :
     map check
-    ("mon\rth" ∷ "month,ons\n1\r\n" ∷ "month,ons\n1,\r\n" ∷ "month,ons\n1,-\r\n" ∷ "month,ons\n\r\n" ∷ (input ++ "\r\n") ∷ (input ++ "\rmonth") ∷ [])
+    ("mon\rth"
+    ∷ "month,ons\n1\r\n"
+    ∷ "month,ons\n1,\r\n"
+    ∷ "month,ons\n1,-\r\n"
+    ∷ "month,ons\n\r\n"
+    ∷ (input ++ "\r\n")
+    ∷ (input ++ "\rmonth")
+    ∷ [])
     ≡ pos 3 ∷ pos 11 ∷ pos 12 ∷ pos 13 ∷ pos 10 ∷ pos 184 ∷ pos 184 ∷ []
 unfolding checkOf judge onward format more line inValue enter step
 stray-crs = refl

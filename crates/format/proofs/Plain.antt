@@ -1,6 +1,5 @@
 -- WITHIN A LINE STANDS NO LF AND NO CR: the names have none, by one computed test of the table, nor has a value's text. Assumes nothing.
 use Prim.Native.Nat.{ℕ, _≤_, _<_}
-use Prim.Native.String.{String}
 use mathlib.Core.Path.{_≡_, refl, sym, subst}
 use mathlib.Core.Bool.{Bool, true, false, _&&_, not}
 use mathlib.Core.List.{List, [], _∷_, map}
@@ -9,10 +8,11 @@ use lib.Dec.{eqb}
 use lib.IntN.{ℤ}
 use borrow.Author.Tests.{not-true, ne-eqb}
 use Rattle.format.specs.Bytes.{bytes, lf, cr, Digit}
-use Rattle.format.specs.Blocks.{Block, month, kinds, Slices, others, blocksOf, blocks}
+use Rattle.format.specs.Blocks.{Block, Slices, blocks}
 use Rattle.format.specs.Decimal.{text, Small, All, Numeral, Value, nought, plain, below}
 use Rattle.format.specs.Grammar.{more, entries, namesOf}
 use Rattle.format.proofs.Live.{both}
+use Rattle.format.proofs.Table.{of-blocks}
 use Rattle.format.proofs.Decimals.{value-of}
 
 -- neither LF nor CR
@@ -24,10 +24,6 @@ abbrev isPlain : List ℕ → Bool
 isPlain [] = true
 isPlain (b ∷ t) = (not (eqb lf b) && not (eqb cr b)) && isPlain t
 
-abbrev allPlain : List (List String) → Bool
-allPlain [] = true
-allPlain (k ∷ ks) = isPlain (entries (map bytes k)) && allPlain ks
-
 is-plain : (t : List ℕ) → isPlain t ≡ true → All Plain t
 is-plain [] e = tt
 is-plain (b ∷ t) e =
@@ -38,16 +34,10 @@ is-plain (b ∷ t) e =
 abbrev pub PlainNames : Block → Type 0
 PlainNames b = All Plain (namesOf b)
 
-kinds-plain : (ks : List (List String)) (r : Slices) → allPlain ks ≡ true → All PlainNames (blocksOf ks r)
-kinds-plain [] r e = tt
-kinds-plain (k ∷ ks) r e =
-    let c = both (isPlain (entries (map bytes k))) (allPlain ks) e in
-    (is-plain (entries (map bytes k)) (c .0), kinds-plain ks (others r) (c .1))
-
 -- THE NAMES
 pub plain-names : (r : Slices) → All PlainNames (blocks r)
 unfolding more
-plain-names r = (is-plain (entries (map bytes month)) refl, kinds-plain kinds r refl)
+plain-names r = of-blocks isPlain PlainNames (λ k n e. is-plain (entries (map bytes k)) e) r refl refl
 
 -- A VALUE'S TEXT: digits, and a minus sign
 digit-plain : (b : ℕ) → 48 ≤ b → b < 58 → Plain b

@@ -2,7 +2,7 @@
 -- moved with the text. Assumes nothing.
 use Prim.Native.Nat.{ℕ, zero, suc, _+_, _<_, min}
 use mathlib.Core.Path.{_≡_, refl, ap, sym, _∙_, subst}
-use mathlib.Core.Bool.{Bool, true, false, cond, _&&_}
+use mathlib.Core.Bool.{Bool, true, false, cond, _&&_, and-false}
 use mathlib.Core.List.{List, [], _∷_, _++_, map}
 use native.Mathlib.Omega.{arith}
 use lib.Dec.{eqb}
@@ -118,13 +118,9 @@ placed g (Faulty k) = Faulty (g k)
 placed g (Full k) = Full (g k)
 
 -- LF and CR neither begin a further file nor a line of values
-off : (p : Bool) → (p && false) ≡ false
-off true = refl
-off false = refl
-
 no-line : (s : State) (b : ℕ) → startsLine b ≡ false → tooMany s b ≡ false
 no-line stuck b e = refl
-no-line (at f) b e = ap (λ (q : Bool). noRoom f && q) e ∙ off (noRoom f)
+no-line (at f) b e = ap (λ (q : Bool). noRoom f && q) e ∙ and-false (noRoom f)
 no-line (value p k f) b e = refl
 
 -- one byte of a scan
@@ -137,7 +133,12 @@ scan-turn :
 unfolding scan turn
 scan-turn s k b t = refl
 
-turn-placed : (g : ℕ → ℕ) (k k' : ℕ) → g k ≡ k' → (o f d : Bool) (v w : Scanned) → w ≡ placed g v → turn k' o f d w ≡ placed g (turn k o f d v)
+turn-placed :
+    (g : ℕ → ℕ) (k k' : ℕ)
+    → g k ≡ k'
+    → (o f d : Bool) (v w : Scanned)
+    → w ≡ placed g v
+    → turn k' o f d w ≡ placed g (turn k o f d v)
 unfolding turn
 turn-placed g k k' e true f d v w h = ap Whole (sym e)
 turn-placed g k k' e false true d v w h = ap Full (sym e)
@@ -220,10 +221,10 @@ same-way g (added last t u n c) s k k' y h =
     (λ f d. same-way g c (at f) (k + 1) (k' + 1 + 1) (clean d) (meet-added g k k' last t u n c h))
   where
     lf-goes-on : endsBefore s lf ≡ false
-    lf-goes-on = off (final s)
+    lf-goes-on = and-false (final s)
 
     cr-goes-on : endsBefore s cr ≡ false
-    cr-goes-on = off (final s)
+    cr-goes-on = and-false (final s)
 
     by :
         MayEnd s

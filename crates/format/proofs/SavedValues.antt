@@ -2,8 +2,9 @@
 -- their CRs; so both are read to the same file. Assumes nothing.
 use Prim.Native.Nat.{ℕ}
 use mathlib.Core.Path.{_≡_, refl, ap, sym, _∙_, subst}
-use mathlib.Core.Bool.{Bool, true, false, cond}
-use mathlib.Core.List.{List, [], _∷_, _++_, map}
+use mathlib.Core.Logic.{ite}
+use mathlib.Core.Bool.{Bool, false, Bool-discrete}
+use mathlib.Core.List.{List, [], _∷_, _++_, map, filter, filter-append}
 use lib.Dec.{eqb}
 use lib.ListN.{length, drop}
 use lib.Seq.{drop-nil}
@@ -18,34 +19,30 @@ use Rattle.format.specs.Saved.{Added, over, kept, added}
 use Rattle.format.proofs.Plain.{Plain, PlainNames, plain-names, plain-text}
 use Rattle.format.proofs.Values.{one-reading}
 
+-- whether a byte is no CR
+abbrev no-cr : (b : ℕ) → Dec (eqb cr b ≡ false)
+no-cr b = Bool-discrete (eqb cr b) false
+
 -- a text without its CRs
 unfoldable bare : List ℕ → List ℕ
-bare [] = []
-bare (b ∷ t) = cond (eqb cr b) (bare t) (b ∷ bare t)
+bare t = filter no-cr t
 
 bare-append : (t u : List ℕ) → bare (t ++ u) ≡ bare t ++ bare u
 unfolding bare
-bare-append [] u = refl
-bare-append (b ∷ t) u = by (eqb cr b) (bare-append t u)
-  where
-    by :
-        (q : Bool)
-        → bare (t ++ u) ≡ bare t ++ bare u
-        → cond q (bare (t ++ u)) (b ∷ bare (t ++ u)) ≡ cond q (bare t) (b ∷ bare t) ++ bare u
-    by true e = e
-    by false e = ap (λ (x : List ℕ). b ∷ x) e
+bare-append t u = filter-append no-cr t u
 
 bare-plain : (t : List ℕ) → All Plain t → bare t ≡ t
 unfolding bare
 bare-plain [] p = refl
 bare-plain (b ∷ t) p =
-    ap (λ (q : Bool). cond q (bare t) (b ∷ bare t)) (p .0 .1) ∙ ap (λ (x : List ℕ). b ∷ x) (bare-plain t (p .1))
+    ap (λ (q : Bool). ite (Bool-discrete q false) (b ∷ filter no-cr t) (filter no-cr t)) (p .0 .1)
+    ∙ ap (λ (x : List ℕ). b ∷ x) (bare-plain t (p .1))
 
 -- the CRs added are not there
 bare-added : {last : ℕ} {t u : List ℕ} → Added last t u → bare u ≡ bare t
 unfolding bare
 bare-added (over last) = refl
-bare-added (kept last b t u c) = ap (λ (x : List ℕ). cond (eqb cr b) x (b ∷ x)) (bare-added c)
+bare-added (kept last b t u c) = ap (λ (x : List ℕ). ite (no-cr b) (b ∷ x) x) (bare-added c)
 bare-added (added last t u n c) = ap (λ (x : List ℕ). lf ∷ x) (bare-added c)
 
 -- a line without its CRs ends in LF

@@ -17,6 +17,7 @@
 --   Learnt        what the contracts of the walked ones tell
 --   Promised      what `Reads` promises is demand 1
 --   Demand1       DEMAND 1 of reading and of the file check, over what a caller learns
+--   Lent          a promise, were the call lent something else that is the same
 --   ReadIsReadAt  `read` is `read_at` at the reader's position
 --   SavedCalls    the law of the saved file, over what a caller learns
 pub mod Joining
@@ -34,5 +35,6 @@ pub mod Pins
 pub mod Learnt
 pub mod Promised
 pub mod Demand1
+pub mod Lent
 pub mod ReadIsReadAt
 pub mod SavedCalls

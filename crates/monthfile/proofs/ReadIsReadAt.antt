@@ -5,31 +5,21 @@ use mathlib.Core.Path.{ap, sym, _∙_, subst}
 use Prim.Native.Nat.{ℕ}
 use mathlib.Core.List.{List}
 use denote.Ref.{now}
-use lib.IntN.{ℤ}
 use Rattle.rules.specs.declared.Point.{Point}
-use Rattle.monthfile.specs.Reads.{asPoints, Reads}
+use Rattle.monthfile.specs.Reads.{asPoints}
 use Rattle.monthfile.specs.Demand1.{ReadCall, SameLent, SameLeft, Joined}
+use Rattle.monthfile.proofs.Lent.{Lent, Promised, lent-alike}
 use Rattle.monthfile.proofs.Demand1.{ReadAt, ReaderRead, atCall, readerCall, textLeft, position, goes}
 
--- c's promise, were it lent these
-abbrev Lent : ReadCall Point → List ℕ → ℕ → List (List ℤ) → List (List ℤ) → List Point → Type 0
-Lent c t from agents users points = Reads asPoints t from agents users points (c .agentsLeft) (c .usersLeft) (c .pointsLeft) (c .answer)
-
-abbrev Promised : ReadCall Point → Type 0
-Promised c = Lent c (c .text) (c .from) (c .agents) (c .users) (c .points)
-
-lent-same : (c d : ReadCall Point) → SameLent c d → Promised c → Promised d → SameLeft c d
+lent-same : (c d : ReadCall Point) → SameLent c d → Promised asPoints c → Promised asPoints d → SameLeft c d
 lent-same c d s x y =
-    let x₁ = subst (λ (t : List ℕ). Lent c t (c .from) (c .agents) (c .users) (c .points)) (s .text) x in
-    let x₂ = subst (λ (k : ℕ). Lent c (d .text) k (c .agents) (c .users) (c .points)) (s .from) x₁ in
-    let x₃ = subst (λ (ls : List (List ℤ)). Lent c (d .text) (d .from) ls (c .users) (c .points)) (s .agents) x₂ in
-    let x₄ = subst (λ (ls : List (List ℤ)). Lent c (d .text) (d .from) (d .agents) ls (c .points)) (s .users) x₃ in
-    let x₅ = subst (λ (ps : List Point). Lent c (d .text) (d .from) (d .agents) (d .users) ps) (s .points) x₄ in
+    let x₁ = lent-alike asPoints c (d .from) (d .agents) (d .users) (d .points) (s .from) (s .agents) (s .users) (s .points) x in
+    let x₂ = subst (λ (t : List ℕ). Lent asPoints c t (d .from) (d .agents) (d .users) (d .points)) (s .text) x₁ in
     record {
-      answer = x₅ .answer ∙ sym (y .answer);
-      agents = x₅ .agents-are ∙ sym (y .agents-are);
-      users = x₅ .users-are ∙ sym (y .users-are);
-      points = x₅ .points-are ∙ sym (y .points-are);
+      answer = x₂ .answer ∙ sym (y .answer);
+      agents = x₂ .agents-are ∙ sym (y .agents-are);
+      users = x₂ .users-are ∙ sym (y .users-are);
+      points = x₂ .points-are ∙ sym (y .points-are);
     }
 
 pub read-is-read-at : (c : ReaderRead) (d : ReadAt) → SameLent (readerCall c) (atCall d) → Joined (readerCall c) (atCall d) (textLeft c) (position c)

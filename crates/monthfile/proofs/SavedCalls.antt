@@ -4,18 +4,17 @@ use mathlib.Core.Path.{_≡_, refl, ap, sym, _∙_, subst}
 use Prim.Native.Nat.{ℕ, _≤_}
 use mathlib.Core.List.{List}
 use lib.ListN.{length}
-use lib.IntN.{ℤ}
 use denote.Ref.{now}
-use Rattle.format.specs.Blocks.{slices}
 use Rattle.format.specs.Grammar.{File}
 use Rattle.format.specs.Reading.{ReadingAnswer, accepted, refused, reading}
 use Rattle.format.specs.Saved.{Saved, moved, movedAnswer, movedNumber}
 use Rattle.format.proofs.SavedReads.{same-reading, same-check}
-use Rattle.monthfile.specs.Reads.{answered, after, asLines, asPoints, nextOf, Gives, Reads}
+use Rattle.monthfile.specs.Reads.{answered, after, asLines, asPoints, nextOf, Gives}
 use Rattle.monthfile.specs.Demand1.{ReadCall, room}
 use Rattle.monthfile.specs.Saved.{movedReading, SavedCall, SameOfSaved}
 use Rattle.monthfile.specs.declared.reading.Reading.{Reading}
 use Rattle.monthfile.specs.declared.reading.Reading.the-variants.{Accepted, Refused}
+use Rattle.monthfile.proofs.Lent.{Promised, lent-alike}
 use Rattle.monthfile.proofs.Demand1.{FileChecked, LinesRead, ReadAt, ReaderRead, linesCall, atCall, readerCall, position, goes}
 
 -- THE FILE CHECK: the same −1, or the place moved; the saved text's length is within its limit
@@ -27,19 +26,7 @@ saved-check c d s h = d .learnt ∙ same-check (now (c .args .0)) (now (d .args 
 
 -- READING
 module _ {A : Type 0} (pointsOf : File → List A) where
-  -- what a call comes with, were it lent these slices and this the answer
-  abbrev Given : ReadCall A → ReadingAnswer → List (List ℤ) → List (List ℤ) → List A → Type 0
-  Given c x agents users points = Gives pointsOf x agents users points (c .agentsLeft) (c .usersLeft) (c .pointsLeft) (c .answer)
-
-  abbrev Promised : ReadCall A → Type 0
-  Promised c = Reads pointsOf (c .text) (c .from) (c .agents) (c .users) (c .points) (c .agentsLeft) (c .usersLeft) (c .pointsLeft) (c .answer)
-
   module _ (c d : ReadCall A) (l : SavedCall c d) where
-    -- d's promise, were it lent these
-    abbrev Lent : List (List ℤ) → List (List ℤ) → List A → Type 0
-    Lent agents users points =
-        Given d (reading (slices (length agents) (length users) (length points)) (d .text) (moved (l .saved) (c .from))) agents users points
-
     -- what is told and written of an answer that has moved
     same-answered : (v : ReadingAnswer) → answered (movedAnswer (l .saved) v) ≡ movedReading (l .saved) (answered v)
     same-answered (accepted f n) = refl
@@ -50,17 +37,16 @@ module _ {A : Type 0} (pointsOf : File → List A) where
     same-after lines (refused number place) xs = refl
 
     -- the saved text's answer is the text's, moved
-    given-saved : Promised d → Given d (movedAnswer (l .saved) (reading (room c) (c .text) (c .from))) (c .agents) (c .users) (c .points)
+    given-saved :
+        Promised pointsOf d
+        → Gives pointsOf (movedAnswer (l .saved) (reading (room c) (c .text) (c .from)))
+        (c .agents) (c .users) (c .points) (d .agentsLeft) (d .usersLeft) (d .pointsLeft) (d .answer)
     given-saved y =
-        let y₁ = subst (λ (k : ℕ). Given d (reading (room d) (d .text) k) (d .agents) (d .users) (d .points)) (l .from) y in
-        let y₂ = subst (λ (ls : List (List ℤ)). Lent ls (d .users) (d .points)) (l .agents) y₁ in
-        let y₃ = subst (λ (ls : List (List ℤ)). Lent (c .agents) ls (d .points)) (l .users) y₂ in
-        let y₄ = subst (λ (ps : List A). Lent (c .agents) (c .users) ps) (l .points) y₃ in
-        subst (λ (x : ReadingAnswer). Given d x (c .agents) (c .users) (c .points))
+        subst (λ (x : ReadingAnswer). Gives pointsOf x (c .agents) (c .users) (c .points) (d .agentsLeft) (d .usersLeft) (d .pointsLeft) (d .answer))
         (same-reading (room c) (c .text) (d .text) (l .saved) (c .from))
-        y₄
+        (lent-alike pointsOf d (moved (l .saved) (c .from)) (c .agents) (c .users) (c .points) (l .from) (l .agents) (l .users) (l .points) y)
 
-    same-of-saved : Promised c → Promised d → SameOfSaved c d (l .saved)
+    same-of-saved : Promised pointsOf c → Promised pointsOf d → SameOfSaved c d (l .saved)
     same-of-saved x y =
         let v = reading (room c) (c .text) (c .from) in
         let z = given-saved y in
