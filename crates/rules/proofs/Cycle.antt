@@ -4,7 +4,7 @@ use Prim.Native.Nat.{ℕ, zero, suc, _+_, _*_, _-_, _≤_, _<_}
 use native.Mathlib.Omega.{arith}
 use mathlib.Core.Path.{_≡_, refl, sym, ap, _∙_, subst}
 use mathlib.Core.Logic.{_≢_}
-use mathlib.Core.Bool.{Bool, true, false, cond, not}
+use mathlib.Core.Bool.{Bool, true, false, cond}
 use mathlib.Core.List.{List, [], _∷_}
 use borrow.Author.Tests.{ne-eqb}
 use lib.Dec.{T, eqb}
@@ -12,13 +12,13 @@ use lib.Ieee.Bits.{is-true}
 use lib.ListN.{getD}
 use lib.IntN.{ℤ, pos, _+ℤ_, _-ℤ_, _*ℤ_}
 use lib.Signed.{ltZ}
-use Rattle.ints.specs.Bridge.{za, up, dn, add#, sub#, mul#, one#}
+use Rattle.ints.specs.Bridge.{za, add#, sub#}
 use Rattle.ints.specs.Computed.{below, below-both}
-use Rattle.ints.specs.Floor.{floor, Floor#, floor-is, floor-in}
-use Rattle.ints.specs.Range.{Within, outside, eqZ, eqZ-true}
+use Rattle.ints.specs.Floor.{floor}
+use Rattle.ints.specs.Range.{Within, eqZ, eqZ-true}
 use Rattle.ints.specs.Sums.{Σ<, Σ-ext}
 use Rattle.share.specs.OnePart.{floor-none, floor-whole}
-use Rattle.rules.specs.Calendar.{monthOfYear, impossibleMonth, cycleMonth}
+use Rattle.rules.specs.Calendar.{monthOfYear, cycleMonth}
 use Rattle.rules.specs.Lines.{Agent}
 use Rattle.rules.specs.Credits.{VMPA}
 use Rattle.rules.proofs.Fits.{Possible}
@@ -114,53 +114,7 @@ VMPA-year y low high a =
     (λ k h. ap (λ (c : ℤ). VMPA c a) (cycle-months y low high k h))
     ∙ VMPA-total a
 
--- ---- these months are possible, and every possible month is one of them, and has a cycle month from 1 to 12
-there : ℕ → ℕ → Bool
-there y m = not (impossibleMonth (yyyymm (2000 + y) (m + 1)))
-
-all-there : T (below (λ y. below (there y) 12) 100)
-unfolding there impossibleMonth monthOfYear outside floor
-all-there = tt
-
-pub calendar-possible : (y m : ℕ) → 2000 ≤ y → y < 2100 → m < 12 → impossibleMonth (yyyymm y (m + 1)) ≡ false
-unfolding there
-calendar-possible y m low high h = subst (λ (y : ℕ). impossibleMonth (yyyymm y (m + 1)) ≡ false) (omega arith) (go (y - 2000) (omega arith))
-  where
-    is-false : (t : Bool) → T (not t) → t ≡ false
-    is-false false u = refl
-    is-false true u = absurd u
-
-    go : (y : ℕ) → y < 100 → impossibleMonth (yyyymm (2000 + y) (m + 1)) ≡ false
-    go y k = is-false _ (below-both there 100 12 all-there y m k h)
-
-pub record Dated (m : ℤ) : Type 0 where
-  pub year : ℕ
-  pub mm : ℕ
-  pub low : 2000 ≤ year
-  pub high : year < 2100
-  pub first : 1 ≤ mm
-  pub last : mm ≤ 12
-  pub is : m ≡ yyyymm year mm
-
-pub dated : (m : ℤ) → Possible m → Dated m
-unfolding monthOfYear
-dated m p = go (floor m (pos 100)) (floor-in (floor-is m 100 (omega arith))) (p .year) (p .mm)
-  where
-    go : (q : ℤ) → Floor# m 100 q → Within (pos 200001) (pos 209912) m → Within (pos 1) (pos 12) (m -ℤ q *ℤ pos 100) → Dated m
-    go q f a c =
-        let r = sub# m (q *ℤ pos 100) in
-        let p = mul# q (pos 100) in
-        let z : dn q ≡ 0 = omega (za, one# q) in
-        record {
-          year = up q;
-          mm = up (m -ℤ q *ℤ pos 100);
-          low = omega za;
-          high = omega za;
-          first = omega za;
-          last = omega za;
-          is = omega (za, one# (m -ℤ q *ℤ pos 100));
-        }
-
+-- ---- a possible month has a cycle month from 1 to 12
 pub cycle-within : (m : ℤ) → Possible m → Within (pos 1) (pos 12) (cycleMonth m)
 unfolding cycleMonth
 cycle-within m p = go (ltZ (monthOfYear m) (pos 7)) refl

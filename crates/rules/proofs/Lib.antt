@@ -1,7 +1,8 @@
 -- What follows from the definitions of specs/, up to demands 1 and 3.
 --
--- An accepted month: `Tests` takes a list of tests apart; `Fits` is a line with every value in its range; `Passed` is all that an
--- accepted month has passed; `Sizes`, `Entries` and `ByLine` are the lengths and the entries of its lists of amounts.
+-- An accepted month: `Tests` takes a list of tests apart; `Fits` is a line with every value in its range; `Months` are those that there
+-- are; `Passed` is all that an accepted month has passed; `Sizes`, `Entries` and `ByLine` are the lengths and the entries of its lists of
+-- amounts.
 -- A loop over its lines: `Turns` is one test of each line, turn by turn; `Answers` reads an answer off its verdict.
 -- Its table: `Near` is the one cent; `Slice` reads a table in the slice that it stands in; `OneTable`: of whole values there is one.
 -- A rounding: `HalfUp` is the one number that lies so near.
@@ -17,6 +18,7 @@
 -- `MonthTotals` has the totals of every accepted month.
 pub mod Tests
 pub mod Fits
+pub mod Months
 pub mod Passed
 pub mod Sizes
 pub mod Entries

@@ -1,28 +1,28 @@
 -- Each limit of opening and closing beside its test for refusals 1 to 7: the limit is kept exactly where the test does not hold. Assumes
 -- nothing.
 use Prim.Native.Nat.{ℕ, _≤_}
-use mathlib.Core.Path.{_≡_, refl, sym, ap, _∙_}
+use mathlib.Core.Path.{_≡_, refl}
 use mathlib.Core.Logic.{_⊎_, inl, inr, _↔_}
 use mathlib.Core.Bool.{Bool, true, false, not, _&&_, _||_}
 use mathlib.Core.List.{List}
 use native.Mathlib.Omega.{arith}
 use lib.Dec.{eqb, ltb}
-use lib.IntN.{ℤ, pos, _-ℤ_, _*ℤ_}
+use lib.IntN.{ℤ, pos}
 use lib.ListN.{length}
 use lib.Signed.{leZ, _<ℤ_}
 use borrow.Author.Tests.{ltb-false, le-ltb, eqb-true, eq-eqb, ne-eqb, not-false}
-use Rattle.ints.specs.Bridge.{za, add#, sub#, mul#, one#, leZ-false, lt-out}
-use Rattle.ints.specs.Floor.{floor, Floor#, floor-is, floor-in, floor-out, floor-eq}
+use Rattle.ints.specs.Bridge.{za, leZ-false, lt-out}
 use Rattle.ints.specs.Range.{Within, outside, or-false, outside-false, within-false, eqZ, eqZ-true, eqZ-refl}
 use Rattle.rules.specs.declared.Point.{Point}
-use Rattle.rules.specs.Calendar.{monthOfYear, impossibleMonth}
+use Rattle.rules.specs.Calendar.{impossibleMonth}
 use Rattle.rules.specs.Lines.{Agent, User, Lines, generator, distributor, nonZero, badAgent, badUser, badPoint, unfitPoint}
 use Rattle.rules.specs.State.{State}
 use Rattle.rules.specs.Refusals.{Lengths, badUsers, badAgents, badCounts, shortSlices, badMonth, creditTest, agentTest, userTest, pointTest}
 use Rattle.rules.specs.Limits.{Month, AgentFits, UserFits, PointFits, KindFits, CountsFit}
 use Rattle.rules.specs.Limits.{CountsAgree, closingRooms, Later, creditLimit, agentLimit, userLimit, pointLimits}
 use Rattle.rules.proofs.Tests.{and-false}
-use Rattle.rules.proofs.Fits.{possible, not-impossible, agent-fits, user-fits, point-fits}
+use Rattle.rules.proofs.Fits.{agent-fits, user-fits, point-fits}
+use Rattle.rules.proofs.Months.{month-possible}
 use Rattle.rules.proofs.Passed.{between}
 use Rattle.rules.proofs.Limits.{Agrees, agrees-when, agrees-before}
 
@@ -32,39 +32,6 @@ neither e f = rw (e, f)
 
 not-unlike : {a b : ℤ} → a ≡ b → not (eqZ a b) ≡ false
 not-unlike {a} {b} e = rw (e, eqZ-refl b)
-
--- ---- months
-month-possible : (m : ℤ) → Month m ↔ (impossibleMonth m ≡ false)
-unfolding monthOfYear
-month-possible m = (there, back)
-  where
-    there : Month m → impossibleMonth m ≡ false
-    there t =
-        let y = t .yyyy in
-        let r = add# (y *ℤ pos 100) (t .mm) in
-        let p = mul# y (pos 100) in
-        let a = t .is in
-        let b = t .year in
-        let c = t .month in
-        let o = one# y in
-        let q : y ≡ floor m (pos 100) = floor-eq (omega arith) (floor-out (record { low = omega za; high = omega za })) in
-        let z : m -ℤ floor m (pos 100) *ℤ pos 100 ≡ t .mm = ap (λ (x : ℤ). m -ℤ x *ℤ pos 100) (sym q) ∙ (let d = sub# m (y *ℤ pos 100) in omega za) in
-        not-impossible (record { year = record { above = omega za; below = omega za }; mm = rw z c })
-
-    back : impossibleMonth m ≡ false → Month m
-    back e = go (floor m (pos 100)) (floor-in (floor-is m 100 (omega arith))) (possible m e .year) (possible m e .mm)
-      where
-        go : (q : ℤ) → Floor# m 100 q → Within (pos 200001) (pos 209912) m → Within (pos 1) (pos 12) (m -ℤ q *ℤ pos 100) → Month m
-        go q f a c =
-            let p = mul# q (pos 100) in
-            let r = sub# m (q *ℤ pos 100) in
-            record {
-              yyyy = q;
-              mm = m -ℤ q *ℤ pos 100;
-              is = let s = add# (q *ℤ pos 100) (m -ℤ q *ℤ pos 100) in omega za;
-              year = record { above = omega (za, one# q); below = omega (za, one# q) };
-              month = c;
-            }
 
 -- ---- 1 and 2
 pub counts-fit : (users agents : ℕ) → CountsFit users agents ↔ ((badUsers users || badAgents agents) ≡ false)
