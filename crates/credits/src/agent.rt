@@ -11,16 +11,27 @@ ghost use Rattle.rules.specs.Ranges.{Correction, AmountsFit};
 use rules::AgentLine;
 use rules::columns;
 
-// Cycle month: July 1 to June 12. A possible month is above 0, where % is mm.
+// Cycle month: July 1 to June 12; any other number has 0, as in the definition. A possible month is above 0, where % is mm.
 pub fn cycle_month(month: i64) -> i64
     requires { ⌜ impossibleMonth month ≡ false ⌝ }
     ensures { λ r. ⌜ r ≡ cycleMonth month ⌝ }
 {
     let mm = month % 100;
-    if mm < 7 {
-        return mm + 6;
+    match mm {
+        1 => 7,
+        2 => 8,
+        3 => 9,
+        4 => 10,
+        5 => 11,
+        6 => 12,
+        7 => 1,
+        8 => 2,
+        9 => 3,
+        10 => 4,
+        11 => 5,
+        12 => 6,
+        _ => 0,
     }
-    mm - 6
 }
 
 // Twelfths rounded down. `/` cuts towards zero, so what is below 0 is moved up before and down after.

@@ -27,7 +27,3 @@ below-at test (suc n) t k h = go (decLe (suc k) n) (below-at test n (both-true (
     go : Dec (k < n) → (k < n → T (test k)) → T (test k)
     go (yes l) earlier = earlier l
     go (no f) earlier = subst (λ (m : ℕ). T (test m)) (omega (arith, f)) (both-true (test n) (below test n) t .0)
-
--- of two numbers
-pub below-both : (test : ℕ → ℕ → Bool) (m n : ℕ) → T (below (λ i. below (test i) n) m) → (i j : ℕ) → i < m → j < n → T (test i j)
-below-both test m n t i j h k = below-at (test i) n (below-at (λ i. below (test i) n) m t i h) j k

@@ -1,96 +1,122 @@
--- Guards of the cycle month and the yearly adjustment: the rule of the cycle month over the whole calendar, by computed tests, and the
--- twelve VMPA from July to June, which total pa.
+-- Guards of the cycle month and the yearly adjustment: the tariff year read against the calendar, and the twelve VMPA from July to June,
+-- which total pa.
 use Prim.Native.Nat.{ℕ, zero, suc, _+_, _*_, _-_, _≤_, _<_}
 use native.Mathlib.Omega.{arith}
-use mathlib.Core.Path.{_≡_, refl, sym, ap, _∙_, subst}
+use mathlib.Core.Path.{_≡_, refl, sym, ap, _∙_}
 use mathlib.Core.Logic.{_≢_}
-use mathlib.Core.Bool.{Bool, true, false, cond}
-use mathlib.Core.List.{List, [], _∷_}
-use borrow.Author.Tests.{ne-eqb}
-use lib.Dec.{T, eqb}
+use mathlib.Core.Bool.{Bool, true, false, cond, not, _||_}
+use borrow.Author.Tests.{ne-eqb, not-true, ltb-true, ltb-false}
+use lib.Dec.{T, eqb, ltb}
 use lib.Ieee.Bits.{is-true}
-use lib.ListN.{getD}
-use lib.IntN.{ℤ, pos, _+ℤ_, _-ℤ_, _*ℤ_}
-use lib.Signed.{ltZ}
-use Rattle.ints.specs.Bridge.{za, add#, sub#}
-use Rattle.ints.specs.Computed.{below, below-both}
+use lib.IntN.{ℤ, pos, negsuc, _+ℤ_, _-ℤ_, _*ℤ_}
+use Rattle.ints.specs.Bridge.{za, add#, sub#, mul#}
+use Rattle.ints.specs.Computed.{below, below-at}
 use Rattle.ints.specs.Floor.{floor}
-use Rattle.ints.specs.Range.{Within, eqZ, eqZ-true}
+use Rattle.ints.specs.Range.{Within, outside, outside-false, eqZ, eqZ-true}
 use Rattle.ints.specs.Sums.{Σ<, Σ-ext}
 use Rattle.share.specs.OnePart.{floor-none, floor-whole}
-use Rattle.rules.specs.Calendar.{monthOfYear, cycleMonth}
+use Rattle.rules.specs.Calendar.{monthOfYear, inCycle, cycleMonth}
+use Rattle.rules.specs.Limits.{Month}
+use Rattle.rules.specs.TariffYear.{TariffYear}
 use Rattle.rules.specs.Lines.{Agent}
 use Rattle.rules.specs.Credits.{VMPA}
 use Rattle.rules.proofs.Fits.{Possible}
-
--- ---- the calendar
--- yyyymm of a year and a month
-abbrev pub yyyymm : ℕ → ℕ → ℤ
-yyyymm y m = pos (100 * y + m)
+use Rattle.rules.proofs.Months.{mm-is, before-in-year, mm-before}
 
 told : {a b : ℤ} → T (eqZ a b) → a ≡ b
 told {a} {b} t = eqZ-true a b (is-true (eqZ a b) t)
 
--- what the cycle month is, in words, in one year: July is 1, January 7, any other month one more than the month before it
-pub record InWords (y : ℕ) : Type 0 where
-  pub january : cycleMonth (yyyymm y 1) ≡ pos 7
-  pub july : cycleMonth (yyyymm y 7) ≡ pos 1
-  pub other : (m : ℕ) → m < 12 → m ≢ 0 → m ≢ 6 → cycleMonth (yyyymm y (m + 1)) ≡ cycleMonth (yyyymm y m) +ℤ pos 1
+past : (k n : ℕ) (b : Bool) → k ≢ n → T (eqb k n || b) → T b
+past k n b h t = rw (ne-eqb k n h) at t
 
--- the month m of the year 2000 + y
-inWords : ℕ → ℕ → Bool
-inWords y m =
-    cond (eqb m 0) (eqZ (cycleMonth (yyyymm (2000 + y) 1)) (pos 7))
-    (cond (eqb m 6) (eqZ (cycleMonth (yyyymm (2000 + y) 7)) (pos 1))
-    (eqZ (cycleMonth (yyyymm (2000 + y) (m + 1))) (cycleMonth (yyyymm (2000 + y) m) +ℤ pos 1)))
+-- ---- the tariff year: each of the twelve cases beside the one before it, by one computed test
+oneMore : ℕ → Bool
+oneMore k = eqb k 0 || (eqb k 6 || eqZ (inCycle (pos (suc k))) (inCycle (pos k) +ℤ pos 1))
 
-computed : T (below (λ y. below (inWords y) 12) 100)
-unfolding inWords cycleMonth monthOfYear floor
+computed : T (below oneMore 12)
+unfolding oneMore
 computed = tt
 
-pub in-words : (y : ℕ) → 2000 ≤ y → y < 2100 → InWords y
-unfolding inWords
-in-words y low high = subst InWords (omega arith) (go (y - 2000) (omega arith))
+one-more : (mm : ℤ) → Within (pos 1) (pos 12) mm → mm ≢ pos 1 → mm ≢ pos 7 → inCycle mm ≡ inCycle (mm -ℤ pos 1) +ℤ pos 1
+unfolding oneMore
+one-more (negsuc n) w h s = absurd (omega (za, w .above))
+one-more (pos zero) w h s = absurd (omega (za, w .above))
+one-more (pos (suc k)) w h s =
+    let z : k ≢ 0 = λ e. h (ap (λ n. pos (suc n)) e) in
+    let x : k ≢ 6 = λ e. s (ap (λ n. pos (suc n)) e) in
+    let l : k < 12 = omega (za, w .below) in
+    let less : pos (suc k) -ℤ pos 1 ≡ pos k = omega (za, sub# (pos (suc k)) (pos 1)) in
+    rw less (told (past k 6 _ x (past k 0 _ z (below-at oneMore 12 computed k l))))
+
+pub tariff-year : {m : ℤ} (t : Month m) → TariffYear t
+unfolding cycleMonth
+tariff-year t = record {
+  january = λ e. rw (mm-is t, e);
+  july = λ e. rw (mm-is t, e);
+  other = λ h s. rw (mm-is t, mm-before t h) (one-more (t .mm) (t .month) h s);
+}
+
+-- ---- a cycle month lies within 1 to 12
+within : ℕ → Bool
+within k = not (outside (pos 1) (pos 12) (inCycle (pos (suc k))))
+
+twelve : T (below within 12)
+unfolding within outside
+twelve = tt
+
+pub cycle-within : (m : ℤ) → Possible m → Within (pos 1) (pos 12) (cycleMonth m)
+unfolding cycleMonth within
+cycle-within m p = go (monthOfYear m) (p .mm)
   where
-    go : (y : ℕ) → y < 100 → InWords (2000 + y)
-    go y h = record {
-      january = told (below-both inWords 100 12 computed y 0 h (omega arith));
-      july = told (below-both inWords 100 12 computed y 6 h (omega arith));
-      other = λ m l z s. told (rw (ne-eqb m 0 z, ne-eqb m 6 s) at (below-both inWords 100 12 computed y m h l));
-    }
+    go : (mm : ℤ) → Within (pos 1) (pos 12) mm → Within (pos 1) (pos 12) (inCycle mm)
+    go (negsuc n) w = absurd (omega (za, w .above))
+    go (pos zero) w = absurd (omega (za, w .above))
+    go (pos (suc k)) w = outside-false _ _ _ (not-true _ (is-true _ (below-at within 12 twelve k (omega (za, w .below)))))
 
--- ---- a cycle
--- the twelve months from July of y to June of the next year
-abbrev pub cycleFrom : ℕ → List ℤ
-cycleFrom y =
-    yyyymm y 7
-    ∷ yyyymm y 8
-    ∷ yyyymm y 9
-    ∷ yyyymm y 10
-    ∷ yyyymm y 11
-    ∷ yyyymm y 12
-    ∷ yyyymm (y + 1) 1
-    ∷ yyyymm (y + 1) 2
-    ∷ yyyymm (y + 1) 3
-    ∷ yyyymm (y + 1) 4
-    ∷ yyyymm (y + 1) 5
-    ∷ yyyymm (y + 1) 6
-    ∷ []
+-- ---- from July to June
+-- yyyymm of a year and a month
+abbrev pub yyyymm : ℕ → ℕ → ℤ
+yyyymm y m = pos (100 * y + m)
 
-inCycle : ℕ → ℕ → Bool
-inCycle y k = eqZ (cycleMonth (getD (cycleFrom (2000 + y)) k (pos 0))) (pos (suc k))
+module _ (y : ℕ) (low : 2000 ≤ y) (high : y < 2100) where
+  abbrev month : (m : ℕ) → 1 ≤ m → m ≤ 12 → Month (yyyymm y m)
+  month m a b = record {
+    yyyy = pos y;
+    mm = pos m;
+    is = omega (za, mul# (pos y) (pos 100), add# (pos y *ℤ pos 100) (pos m));
+    year = record { above = omega za; below = omega za };
+    month = record { above = omega za; below = omega za };
+  }
 
-cycles : T (below (λ y. below (inCycle y) 12) 99)
-unfolding inCycle cycleMonth monthOfYear floor
-cycles = tt
+  -- after the month m comes n in the same year, which is not July
+  next : {m c : ℕ} (n d : ℕ) → n ≡ suc m → d ≡ suc c → 1 ≤ m → m < 12 → m ≢ 6 → cycleMonth (yyyymm y m) ≡ pos c → cycleMonth (yyyymm y n) ≡ pos d
+  next {m} {c} n d a o first last h e =
+      let t = month n (omega arith) (omega arith) in
+      let j : pos n ≢ pos 1 = λ e. omega za in
+      let s : pos n ≢ pos 7 = λ e. h (omega za) in
+      let before : yyyymm y n -ℤ pos 1 ≡ yyyymm y m = omega (za, sub# (yyyymm y n) (pos 1)) in
+      let count : pos c +ℤ pos 1 ≡ pos d = omega (za, add# (pos c) (pos 1)) in
+      tariff-year t .other j s ∙ ap (λ (x : ℤ). cycleMonth x +ℤ pos 1) (before-in-year t j ∙ before) ∙ ap (λ (x : ℤ). x +ℤ pos 1) e ∙ count
 
--- they are the cycle months 1 to 12
-pub cycle-months : (y : ℕ) → 2000 ≤ y → y < 2099 → (k : ℕ) → k < 12 → cycleMonth (getD (cycleFrom y) k (pos 0)) ≡ pos (suc k)
-unfolding inCycle
-cycle-months y low high k h = subst (λ (y : ℕ). cycleMonth (getD (cycleFrom y) k (pos 0)) ≡ pos (suc k)) (omega arith) (go (y - 2000) (omega arith))
+  -- July to December are 1 to 6, January to June 7 to 12
+  july-on : (k : ℕ) → k < 6 → cycleMonth (yyyymm y (7 + k)) ≡ pos (1 + k)
+  july-on zero l = tariff-year (month 7 (omega arith) (omega arith)) .july refl
+  july-on (suc k) l = next _ _ (omega arith) (omega arith) (omega arith) (omega arith) (λ e. omega arith) (july-on k (omega arith))
+
+  january-on : (k : ℕ) → k < 6 → cycleMonth (yyyymm y (1 + k)) ≡ pos (7 + k)
+  january-on zero l = tariff-year (month 1 (omega arith) (omega arith)) .january refl
+  january-on (suc k) l = next _ _ (omega arith) (omega arith) (omega arith) (omega arith) (λ e. omega arith) (january-on k (omega arith))
+
+-- the month k, from 0, of the cycle that begins in July of y: July to December, then January to June of the next year
+abbrev pub cycleFrom : ℕ → ℕ → ℤ
+cycleFrom y k = cond (ltb k 6) (yyyymm y (7 + k)) (yyyymm (y + 1) (1 + (k - 6)))
+
+cycle-months : (y : ℕ) → 2000 ≤ y → y < 2099 → (k : ℕ) → k < 12 → cycleMonth (cycleFrom y k) ≡ pos (suc k)
+cycle-months y low high k h = go (ltb k 6) refl
   where
-    go : (y : ℕ) → y < 99 → cycleMonth (getD (cycleFrom (2000 + y)) k (pos 0)) ≡ pos (suc k)
-    go y l = told (below-both inCycle 99 12 cycles y k l h)
+    go : (first : Bool) → ltb k 6 ≡ first → cycleMonth (cond first (yyyymm y (7 + k)) (yyyymm (y + 1) (1 + (k - 6)))) ≡ pos (suc k)
+    go true e = july-on y low (omega arith) k (ltb-true k 6 e) ∙ ap pos (omega arith)
+    go false e = let l = ltb-false k 6 e in january-on (y + 1) (omega arith) (omega arith) (k - 6) (omega arith) ∙ ap pos (omega arith)
 
 -- ---- VMPA of the first n cycle months: what is due by then
 pub VMPA-by : (a : Agent) (n : ℕ) → Σ< n (λ k. VMPA (pos (suc k)) a) ≡ floor (a .pa *ℤ pos n) (pos 12)
@@ -108,17 +134,8 @@ VMPA-by a (suc n) = rw (VMPA-by a n, less n) (gap (floor (a .pa *ℤ pos n) (pos
 pub VMPA-total : (a : Agent) → Σ< 12 (λ k. VMPA (pos (suc k)) a) ≡ a .pa
 VMPA-total a = VMPA-by a 12 ∙ floor-whole (a .pa) (pos 12) (omega za)
 
-pub VMPA-year : (y : ℕ) → 2000 ≤ y → y < 2099 → (a : Agent) → Σ< 12 (λ k. VMPA (cycleMonth (getD (cycleFrom y) k (pos 0))) a) ≡ a .pa
+pub VMPA-year : (y : ℕ) → 2000 ≤ y → y < 2099 → (a : Agent) → Σ< 12 (λ k. VMPA (cycleMonth (cycleFrom y k)) a) ≡ a .pa
 VMPA-year y low high a =
-    Σ-ext 12 (λ k. VMPA (cycleMonth (getD (cycleFrom y) k (pos 0))) a) (λ k. VMPA (pos (suc k)) a)
+    Σ-ext 12 (λ k. VMPA (cycleMonth (cycleFrom y k)) a) (λ k. VMPA (pos (suc k)) a)
     (λ k h. ap (λ (c : ℤ). VMPA c a) (cycle-months y low high k h))
     ∙ VMPA-total a
-
--- ---- a possible month has a cycle month from 1 to 12
-pub cycle-within : (m : ℤ) → Possible m → Within (pos 1) (pos 12) (cycleMonth m)
-unfolding cycleMonth
-cycle-within m p = go (ltZ (monthOfYear m) (pos 7)) refl
-  where
-    go : (t : Bool) → ltZ (monthOfYear m) (pos 7) ≡ t → Within (pos 1) (pos 12) (cond t (monthOfYear m +ℤ pos 6) (monthOfYear m -ℤ pos 6))
-    go true e = let h = p .mm in let s = add# (monthOfYear m) (pos 6) in record { above = omega za; below = omega za }
-    go false e = let h = p .mm in let s = sub# (monthOfYear m) (pos 6) in record { above = omega za; below = omega za }

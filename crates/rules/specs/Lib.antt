@@ -1,4 +1,5 @@
--- Paper 01 as definitions, in the paper's order. A reader who holds the paper beside these pages needs to believe nothing else.
+-- Paper 01 as definitions, in the paper's order, with what paper 02 adds. A reader who holds the papers beside these pages needs to
+-- believe nothing else.
 pub mod Verdict
 pub mod Most
 pub mod Lists
@@ -11,6 +12,7 @@ pub mod Credits
 pub mod Table
 pub mod Refusals
 pub mod Limits
+pub mod TariffYear
 pub mod Tested
 pub mod Calls
 pub mod Tally

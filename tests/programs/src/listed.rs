@@ -1,16 +1,19 @@
-//! Inputs that are listed one by one: a CR at every place, the longest input in CR LF, and the stored runs.
+//! Inputs that are listed one by one: a CR at every place, the longest input in CR LF, every month of the calendar, and
+//! the stored runs.
 
 use crate::inputs::{exact, in_turn, Ends, Input};
-use rateio_reference::program::PROGRAM_INPUT;
+use rateio_reference::lines::{Agent, MonthLines, User, CONSUMER};
+use rateio_reference::program::{events, Event, PROGRAM_INPUT};
 use rateio_reference::rng::Rng;
 use rateio_reference::vectors::{self, VECTOR_FILES};
-use rateio_reference::{json, sample, texts};
+use rateio_reference::{json, months, sample, texts};
 use std::path::Path;
 
 /// All of them; `runs` are vector files of runs.
 pub fn inputs(runs: &[&str]) -> Result<Vec<Input>, String> {
     let mut inputs = cr_at_every_place();
     inputs.extend(longest());
+    inputs.extend(calendar()?);
     for path in runs {
         inputs.extend(stored(path)?.into_iter().map(|input| ("a stored run", input)));
     }
@@ -48,6 +51,21 @@ fn longest() -> Vec<Input> {
     inputs.push(("too long in CR LF alone", texts::cr_lf(&one_less)));
     inputs.push(("not too long in LF", one_less));
     inputs
+}
+
+/// Every month that exists, a year an input, all of them closed. No two cycle months have the same VMPA of adjustments
+/// of 1 to 11 cents, so the agents' VMPA tell which one it is.
+fn calendar() -> Result<Vec<Input>, String> {
+    let agent = |pa: i64| Agent { number: pa, pb: pa, pv: 0, afs: 0, rfs: 0, pa, ret: 0 };
+    let users = vec![User { number: 1, kind: CONSUMER, ret: 100 }];
+    let lines = MonthLines { month: 0, ons: 1, agents: (1..12).map(agent).collect(), users, points: Vec::new() };
+    let months: Vec<MonthLines> = months::calendar().map(|month| MonthLines { month, ..lines.clone() }).collect();
+    let inputs: Vec<Input> = months.chunks(12).map(|year| ("a year of the calendar", texts::files(year))).collect();
+    let events = inputs.iter().flat_map(|(_, text)| events(text));
+    match events.filter(|event| matches!(event, Event::Closed(_))).count() {
+        1200 => Ok(inputs),
+        closed => Err(format!("{} months of the calendar closed, of 1,200", closed)),
+    }
 }
 
 /// The inputs of a vector file of runs, on each of which the reference calculation agrees with what is stored.

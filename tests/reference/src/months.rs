@@ -64,6 +64,11 @@ pub fn next_month(month: i64) -> i64 {
     }
 }
 
+/// Every month that exists, in the calendar's order.
+pub fn calendar() -> impl Iterator<Item = i64> {
+    std::iter::successors(Some(200_001), |&month| Some(next_month(month))).take_while(|&month| month <= 209_912)
+}
+
 /// Lines that break none of the limits 5 to 7; 8, 9 and 10 may apply.
 pub fn month(rng: &mut Rng, style: Style, counts: Counts) -> MonthLines {
     let agents = (1..=counts.agents as i64).map(|number| agent(rng, style, number)).collect();

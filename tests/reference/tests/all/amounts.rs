@@ -120,8 +120,28 @@ fn twelve_adjustments_total_the_year() {
         assert_eq!(total(&months), pa);
         assert!(months.iter().all(|month| (month * 12 - pa).abs() < 12));
     }
-    let cycle: Vec<i64> = (1..=12).map(|mm| cycle_month(202_400 + mm)).collect();
-    assert_eq!(cycle, [7, 8, 9, 10, 11, 12, 1, 2, 3, 4, 5, 6]);
+}
+
+#[test]
+fn tariff_year_by_the_calendar() {
+    let calendar: Vec<i64> = months::calendar().collect();
+    assert_eq!((calendar.len(), calendar[0], calendar[288], calendar[1199]), (1200, 200_001, 202_401, 209_912));
+    for (before, &month) in std::iter::once(&199_912).chain(&calendar).zip(&calendar) {
+        let expected = match month % 100 {
+            1 => 7,
+            7 => 1,
+            _ => cycle_month(*before) + 1,
+        };
+        assert_eq!(cycle_month(month), expected, "{}", month);
+    }
+}
+
+#[test]
+fn small_adjustments_tell_the_cycle_month() {
+    let due = |c: i64| (1..12).map(|pa| vmpa(pa, c)).collect::<Vec<i128>>();
+    for c in 1..=12 {
+        assert!((1..c).all(|other| due(other) != due(c)), "{}", c);
+    }
 }
 
 #[test]
