@@ -89,7 +89,9 @@ module _ (y : ℕ) (low : 2000 ≤ y) (high : y < 2100) where
   }
 
   -- after the month m comes n in the same year, which is not July
-  next : {m c : ℕ} (n d : ℕ) → n ≡ suc m → d ≡ suc c → 1 ≤ m → m < 12 → m ≢ 6 → cycleMonth (yyyymm y m) ≡ pos c → cycleMonth (yyyymm y n) ≡ pos d
+  next :
+      {m c : ℕ} (n d : ℕ) → n ≡ suc m → d ≡ suc c → 1 ≤ m → m < 12 → m ≢ 6
+      → cycleMonth (yyyymm y m) ≡ pos c → cycleMonth (yyyymm y n) ≡ pos d
   next {m} {c} n d a o first last h e =
       let t = month n (omega arith) (omega arith) in
       let j : pos n ≢ pos 1 = λ e. omega za in

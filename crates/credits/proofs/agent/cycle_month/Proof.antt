@@ -47,7 +47,8 @@ arm s k e =
 
 -- any other number has 0
 other :
-    (x : ℕ) → x ≢ 1 → x ≢ 2 → x ≢ 3 → x ≢ 4 → x ≢ 5 → x ≢ 6 → x ≢ 7 → x ≢ 8 → x ≢ 9 → x ≢ 10 → x ≢ 11 → x ≢ 12 → inCycle (toZ w64 x) ≡ pos 0
+    (x : ℕ) → x ≢ 1 → x ≢ 2 → x ≢ 3 → x ≢ 4 → x ≢ 5 → x ≢ 6
+    → x ≢ 7 → x ≢ 8 → x ≢ 9 → x ≢ 10 → x ≢ 11 → x ≢ 12 → inCycle (toZ w64 x) ≡ pos 0
 other x a b c d e f g h i j k l = go (ltb x (2 ^ 63))
   where
     go : (t : Bool) → inCycle (sel t (pos x) (negsuc (2 ^ 64 - suc x))) ≡ pos 0
