@@ -26,6 +26,9 @@ use Rattle.rules.proofs.Months.{mm-is, before-in-year, mm-before}
 told : {a b : ℤ} → T (eqZ a b) → a ≡ b
 told {a} {b} t = eqZ-true a b (is-true (eqZ a b) t)
 
+one-less : (n : ℕ) → pos (suc n) -ℤ pos 1 ≡ pos n
+one-less n = omega (za, sub# (pos (suc n)) (pos 1))
+
 past : (k n : ℕ) (b : Bool) → k ≢ n → T (eqb k n || b) → T b
 past k n b h t = rw (ne-eqb k n h) at t
 
@@ -45,8 +48,7 @@ one-more (pos (suc k)) w h s =
     let z : k ≢ 0 = λ e. h (ap (λ n. pos (suc n)) e) in
     let x : k ≢ 6 = λ e. s (ap (λ n. pos (suc n)) e) in
     let l : k < 12 = omega (za, w .below) in
-    let less : pos (suc k) -ℤ pos 1 ≡ pos k = omega (za, sub# (pos (suc k)) (pos 1)) in
-    rw less (told (past k 6 _ x (past k 0 _ z (below-at oneMore 12 computed k l))))
+    rw (one-less k) (told (past k 6 _ x (past k 0 _ z (below-at oneMore 12 computed k l))))
 
 pub tariff-year : {m : ℤ} (t : Month m) → TariffYear t
 unfolding cycleMonth
@@ -124,13 +126,10 @@ cycle-months y low high k h = go (ltb k 6) refl
 pub VMPA-by : (a : Agent) (n : ℕ) → Σ< n (λ k. VMPA (pos (suc k)) a) ≡ floor (a .pa *ℤ pos n) (pos 12)
 unfolding Σ< VMPA
 VMPA-by a zero = sym (floor-none (a .pa) (pos 12) (omega za))
-VMPA-by a (suc n) = rw (VMPA-by a n, less n) (gap (floor (a .pa *ℤ pos n) (pos 12)) (floor (a .pa *ℤ pos (suc n)) (pos 12)))
+VMPA-by a (suc n) = rw (VMPA-by a n, one-less n) (gap (floor (a .pa *ℤ pos n) (pos 12)) (floor (a .pa *ℤ pos (suc n)) (pos 12)))
   where
     gap : (x y : ℤ) → x +ℤ (y -ℤ x) ≡ y
     gap x y = omega (za, sub# y x, add# x (y -ℤ x))
-
-    less : (n : ℕ) → pos (suc n) -ℤ pos 1 ≡ pos n
-    less n = omega (za, sub# (pos (suc n)) (pos 1))
 
 -- the twelve total pa, and so do those of the months from July to June
 pub VMPA-total : (a : Agent) → Σ< 12 (λ k. VMPA (pos (suc k)) a) ≡ a .pa
