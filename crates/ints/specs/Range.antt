@@ -1,6 +1,6 @@
 -- Tests on whole numbers: a value outside its limits, two values equal, and what the tests tell.
 use mathlib.Core.Path.{_≡_, refl, sym, ap, _∙_}
-use mathlib.Core.Logic.{_≢_}
+use mathlib.Core.Logic.{_≢_, _↔_}
 use mathlib.Core.Bool.{Bool, true, false, true≢false, false≢true, _||_}
 use lib.Dec.{eqb}
 use lib.IntN.{ℤ, pos, negsuc}
@@ -55,3 +55,16 @@ eqZ-refl (negsuc a) = eq-eqb a a refl
 
 pub eqZ-false : (a b : ℤ) → eqZ a b ≡ false → a ≢ b
 eqZ-false a b e p = true≢false (sym (eqZ-refl a) ∙ ap (λ (x : ℤ). eqZ a x) p ∙ e)
+
+-- tests that hold in the same cases, and one that does not hold
+pub eqZ-same : (a b c d : ℤ) → (a ≡ b) ↔ (c ≡ d) → eqZ a b ≡ eqZ c d
+eqZ-same a b c d f = go (eqZ a b) refl (eqZ c d) refl
+  where
+    go : (s : Bool) → eqZ a b ≡ s → (t : Bool) → eqZ c d ≡ t → s ≡ t
+    go true e true e′ = refl
+    go true e false e′ = absurd (eqZ-false c d e′ (f .0 (eqZ-true a b e)))
+    go false e true e′ = absurd (eqZ-false a b e (f .1 (eqZ-true c d e′)))
+    go false e false e′ = refl
+
+pub eqZ-not : (a b : ℤ) → a ≢ b → eqZ a b ≡ false
+eqZ-not a b n = eqZ-same a b (pos 0) (pos 1) (λ e. absurd (n e), λ e. absurd (omega za))

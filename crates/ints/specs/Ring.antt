@@ -68,3 +68,7 @@ all4 Q f x y z w = all1 (λ (t : ℤ). Q x y z t) (λ a b. all3 (λ (t u v : ℤ
 
 pub all5 : (Q : ℤ → ℤ → ℤ → ℤ → ℤ → Type 0) → ((a b c d e f g h i j : ℕ) → Q (a ⊖ b) (c ⊖ d) (e ⊖ f) (g ⊖ h) (i ⊖ j)) → (x y z w t : ℤ) → Q x y z w t
 all5 Q f x y z w t = all1 (λ (m : ℤ). Q x y z w m) (λ a b. all4 (λ (m n o p : ℤ). Q m n o p (a ⊖ b)) (λ c d e g h i j k. f c d e g h i j k a b) x y z w) t
+
+-- ---- two sums of two
+pub add-swap : (a b c d : ℤ) → a +ℤ b +ℤ (c +ℤ d) ≡ a +ℤ c +ℤ (b +ℤ d)
+add-swap = all4 _ (λ a b c d e f g h. simp diff (omega arith))

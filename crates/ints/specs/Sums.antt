@@ -12,7 +12,7 @@ use lib.Signed.{_≤ℤ_}
 use mir.Syntax.{w64}
 use mir.Val.{SFits}
 use Rattle.ints.specs.Bridge.{abs, za, add#}
-use Rattle.ints.specs.Ring.{all3, all4, diff}
+use Rattle.ints.specs.Ring.{all3, diff, add-swap}
 use Rattle.ints.specs.Order.{add-mono, ≤-refl, ≤-trans, ≡→≤}
 use Rattle.ints.specs.NatSums.{Σ}
 
@@ -144,10 +144,7 @@ unfolding Σ<
 pub Σ-add : (n : ℕ) (f g : ℕ → ℤ) → Σ< n (λ k. f k +ℤ g k) ≡ Σ< n f +ℤ Σ< n g
 unfolding Σ<
 Σ-add zero f g = refl
-Σ-add (suc n) f g = ap (λ (t : ℤ). t +ℤ (f n +ℤ g n)) (Σ-add n f g) ∙ swap (Σ< n f) (Σ< n g) (f n) (g n)
-  where
-    swap : (x y z w : ℤ) → x +ℤ y +ℤ (z +ℤ w) ≡ x +ℤ z +ℤ (y +ℤ w)
-    swap = all4 _ (λ a b c d e f g h. simp diff (omega arith))
+Σ-add (suc n) f g = ap (λ (t : ℤ). t +ℤ (f n +ℤ g n)) (Σ-add n f g) ∙ add-swap (Σ< n f) (Σ< n g) (f n) (g n)
 
 pub Σ-scale : (n : ℕ) (f : ℕ → ℤ) (c : ℤ) → Σ< n (λ k. f k *ℤ c) ≡ Σ< n f *ℤ c
 unfolding Σ<

@@ -1,16 +1,16 @@
 -- The limits of opening and closing agree with their refusals: of any arguments, the first limit that is broken is the one that the call
 -- is refused for, and a call that keeps all is accepted. Assumes nothing.
 use Prim.Native.Nat.{ℕ, _≤_, _<_}
-use mathlib.Core.Path.{_≡_, refl, sym, subst}
+use mathlib.Core.Path.{_≡_, sym, subst}
 use mathlib.Core.Logic.{_↔_}
-use mathlib.Core.Bool.{Bool, true, false, _&&_}
+use mathlib.Core.Bool.{false, _&&_}
 use mathlib.Core.List.{List, []}
 use native.Mathlib.Omega.{arith}
 use lib.IntN.{ℤ, pos}
 use lib.ListN.{length, getD, length-map}
 use lib.Signed.{ltZ, _≤ℤ_, _<ℤ_}
 use Rattle.ints.specs.Bridge.{za, ltZ-true, lt-out}
-use Rattle.ints.specs.Range.{eqZ, eqZ-true, eqZ-false}
+use Rattle.ints.specs.Range.{eqZ, eqZ-false, eqZ-not}
 use Rattle.ints.specs.Sums.{sumℤ, sum-nonneg}
 use Rattle.rules.specs.Verdict.{Verdict, when, _then_, eachLine}
 use Rattle.rules.specs.Lists.{getD-map}
@@ -40,11 +40,7 @@ opening-agrees users agents held =
 
 -- ---- 8, 9, 10: no sum is negative, so one that is not 0 is above 0
 above-zero : (x : ℤ) → pos 0 ≤ℤ x → (pos 0 <ℤ x) ↔ (eqZ x (pos 0) ≡ false)
-above-zero x n = (there (eqZ x (pos 0)) refl, λ e. above n (eqZ-false x (pos 0) e))
-  where
-    there : (t : Bool) → eqZ x (pos 0) ≡ t → pos 0 <ℤ x → t ≡ false
-    there true e h = let z : x ≡ pos 0 = eqZ-true x (pos 0) e in absurd (omega za)
-    there false e h = refl
+above-zero x n = (λ h. eqZ-not x (pos 0) (λ z. absurd (omega za)), λ e. above n (eqZ-false x (pos 0) e))
 
 weighed : (pv EUST : ℤ) → pos 0 ≤ℤ EUST → (pos 0 <ℤ pv → pos 0 <ℤ EUST) ↔ ((ltZ (pos 0) pv && eqZ EUST (pos 0)) ≡ false)
 weighed pv EUST n = (

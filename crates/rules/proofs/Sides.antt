@@ -9,7 +9,7 @@ use lib.IntN.{ℤ, pos, _+ℤ_}
 use lib.Signed.{_≤ℤ_, _<ℤ_}
 use Rattle.ints.specs.Bridge.{za, add#}
 use Rattle.ints.specs.Order.{add-mono}
-use Rattle.ints.specs.Ring.{all4, diff}
+use Rattle.ints.specs.Ring.{add-swap}
 use Rattle.ints.specs.Sums.{sumℤ, NonNeg, nonneg-head, nonneg-tail, sum-nonneg}
 use Rattle.rules.specs.Lists.{eachFrom, sideBySide}
 
@@ -19,10 +19,7 @@ unfolding sideBySide sumℤ
 sum-sides [] [] e = refl
 sum-sides [] (y ∷ ys) e = absurd (omega arith)
 sum-sides (x ∷ xs) [] e = absurd (omega arith)
-sum-sides (x ∷ xs) (y ∷ ys) e = ap (λ (t : ℤ). x +ℤ y +ℤ t) (sum-sides xs ys (omega arith)) ∙ swap x y (sumℤ xs) (sumℤ ys)
-  where
-    swap : (a b c d : ℤ) → a +ℤ b +ℤ (c +ℤ d) ≡ a +ℤ c +ℤ (b +ℤ d)
-    swap = all4 _ (λ a b c d e f g h. simp diff (omega arith))
+sum-sides (x ∷ xs) (y ∷ ys) e = ap (λ (t : ℤ). x +ℤ y +ℤ t) (sum-sides xs ys (omega arith)) ∙ add-swap x y (sumℤ xs) (sumℤ ys)
 
 pub sum-zeros : (n : ℕ) → sumℤ (replicate n (pos 0)) ≡ pos 0
 unfolding sumℤ
