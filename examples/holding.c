@@ -1,11 +1,14 @@
 /*
  * A holding's month: shares a charge over its concessions, to the cent.
  *
- *     holding FILE CENTS
+ *     holding FILE CENTS [AGENT]
  *
  * FILE holds month files on end, CENTS is the charge (either sign). The file is checked whole before a number is read from
  * it, so that the reading here may be simple: after the check no line can surprise it. For each month the charge is shared over
  * the agents' pb, and the parts total the charge exactly. Writes month,agent,cents; a fault goes to standard error.
+ *
+ * AGENT, by its position from 1, and the next one are sister concessions that stand on one line in every month, as 2+3. The line
+ * receives what the two receive apart, and every other line the same, to the cent. A month that cannot be shared prints no line.
  */
 #include <errno.h>
 #include <inttypes.h>
@@ -79,31 +82,66 @@ static const char *refusal(int64_t answer)
     }
 }
 
-/* Shares the charge over the agent lines that begin here; 0 where a part is refused. */
-static int share_out(int64_t charge, long month, const char *lines)
+/* How many agent lines begin here. */
+static long long agents_of(const char *lines)
 {
-    int64_t total = 0, through = 0;
+    long long agents = 0;
 
-    /* A total that leaves its limits stays there: the share refuses it. */
     for (const char *line = lines; *line != 'u'; line = next_line(line))
-        if (total >= 0 && total <= RATEIO_SHARE_LIMIT)
-            total += weight_of(line);
+        agents++;
+    return agents;
+}
+
+/* What the pb of these lines total, or the refusal of a negative one, which the sum of two could hide. */
+static int64_t total_of(const char *lines)
+{
+    int64_t total = 0;
+
     for (const char *line = lines; *line != 'u'; line = next_line(line)) {
-        int64_t before = through, part;
+        if (weight_of(line) < 0)
+            return RATEIO_SHARE_BAD_SUMS;
+        /* A total that leaves its limits stays there: the share refuses it. */
+        if (total <= RATEIO_SHARE_LIMIT)
+            total += weight_of(line);
+    }
+    return total;
+}
+
+/* Shares the charge over these lines, agent `sister` and the next on one line (0 for none); 0 where it cannot. */
+static int share_out(int64_t charge, long month, const char *lines, long long sister)
+{
+    int64_t total = total_of(lines), through = 0;
+    /* the whole charge as one part: where the share takes that, it takes every part */
+    int64_t whole = total < 0 ? total : rateio_share(charge, 0, total, total);
+    long long agent = 0;
+
+    if (RATEIO_SHARE_REFUSED(whole)) {
+        fprintf(stderr, "holding: month %ld: %s\n", month, refusal(whole));
+        return 0;
+    }
+    if (sister > 0 && sister >= agents_of(lines)) {
+        fprintf(stderr, "holding: month %ld: no agent follows agent %lld\n", month, sister);
+        return 0;
+    }
+    for (const char *line = lines; *line != 'u'; line = next_line(line)) {
+        int64_t before = through;
+        const char *first = line;
 
         through += weight_of(line);
-        part = rateio_share(charge, before, through, total);
-        if (RATEIO_SHARE_REFUSED(part)) {
-            fprintf(stderr, "holding: month %ld: %s\n", month, refusal(part));
-            return 0;
+        if (++agent == sister) {
+            line = next_line(line);
+            through += weight_of(line);
         }
-        printf("%ld,%.*s,%" PRId64 "\n", month, (int)strcspn(line, ","), line, part);
+        printf("%ld,%.*s", month, (int)strcspn(first, ","), first);
+        if (line != first)
+            printf("+%.*s", (int)strcspn(line, ","), line);
+        printf(",%" PRId64 "\n", rateio_share(charge, before, through, total));
     }
     return 1;
 }
 
 /* Every month of a checked text. */
-static int each_month(int64_t charge, const char *text)
+static int each_month(int64_t charge, long long sister, const char *text)
 {
     int whole = 1;
 
@@ -111,24 +149,36 @@ static int each_month(int64_t charge, const char *text)
     while (*text) {
         const char *month = next_line(text), *agents = next_line(next_line(month));
 
-        whole &= share_out(charge, strtol(month, NULL, 10), agents);
+        whole &= share_out(charge, strtol(month, NULL, 10), agents, sister);
         for (text = agents; *text && *text != 'm';)
             text = next_line(text);
     }
     return whole;
 }
 
+/* A whole argument as a number; 0 where it is none. */
+static int number(const char *argument, long long *value)
+{
+    char *end;
+
+    errno = 0;
+    *value = strtoll(argument, &end, 10);
+    return !errno && end != argument && !*end;
+}
+
 int main(int argc, char **argv)
 {
-    if (argc != 3) {
-        fprintf(stderr, "usage: holding FILE CENTS\n");
+    if (argc != 3 && argc != 4) {
+        fprintf(stderr, "usage: holding FILE CENTS [AGENT]\n");
         return 2;
     }
-    char *end;
-    errno = 0;
-    long long charge = strtoll(argv[2], &end, 10);
-    if (errno || end == argv[2] || *end) {
+    long long charge, sister = 0;
+    if (!number(argv[2], &charge)) {
         fprintf(stderr, "holding: %s is no amount in cents\n", argv[2]);
+        return 2;
+    }
+    if (argc == 4 && (!number(argv[3], &sister) || sister < 1)) {
+        fprintf(stderr, "holding: %s is no agent\n", argv[3]);
         return 2;
     }
     size_t length;
@@ -140,7 +190,7 @@ int main(int argc, char **argv)
     int64_t place = rateio_check((const uint8_t *)text, length);
     int whole = place == RATEIO_CHECK_FILES;
     if (whole)
-        whole = each_month(charge, text);
+        whole = each_month(charge, sister, text);
     else if (place == RATEIO_CHECK_TOO_LONG)
         fprintf(stderr, "holding: %s is longer than 10^15 bytes\n", argv[1]);
     else

@@ -45,8 +45,13 @@ extern "C" {
  *
  * To share p over weights w1 .. wn, call it for each in turn, `before` being 0 and then the last call's `through`. The last
  * `through` is w, and the parts then total p to the cent: no rounding is left over. So -1106 over 1000 and 2000 is
- * rateio_share(-1106, 0, 1000, 3000) = -369 and rateio_share(-1106, 1000, 3000, 3000) = -737. The parts of
- * neighbours add up to the part of both (before of the first, through of the last), and a weight of 0 gets 0.
+ * rateio_share(-1106, 0, 1000, 3000) = -369 and rateio_share(-1106, 1000, 3000, 3000) = -737.
+ *
+ * Neighbours may stand on one line, whose weight is the sum of theirs (before of the first, through of the last): it
+ * receives the sum of their parts, and every other line what it received. A weight of 0 receives 0 and may be left out.
+ * Both are theorems over every list of weights and every p: share-joined and share-left-out in
+ * crates/share/specs/Joined.antt; of the answers here neighbours-learnt and nothing-learnt in
+ * crates/rateio_c/proofs/Learnt.antt.
  */
 int64_t rateio_share(int64_t p, int64_t before, int64_t through, int64_t w);
 

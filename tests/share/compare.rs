@@ -270,7 +270,7 @@ fn compare_all(path: &str) {
     all.print("together");
     assert!(all.inputs >= 2_000_000 && all.faulty.iter().all(|&n| n > 0) && all.signs.iter().all(|&n| n > 0));
 
-    // whole lists: the parts total the amount
+    // whole lists: the parts total the amount, and two neighbours on one line receive what they receive apart
     let lists = 200_000;
     for _ in 0..lists {
         let p = random.signed(LIMIT);
@@ -278,17 +278,19 @@ fn compare_all(path: &str) {
         let mut weights: Vec<i64> = (0..n).map(|_| random.sized(LIMIT / 10)).collect();
         weights[0] += (weights.iter().sum::<i64>() == 0) as i64;
         let w = weights.iter().sum();
-        let (mut through, mut total) = (0, 0);
+        let (mut before, mut through, mut part, mut total) = (0, 0, 0, 0);
         for &weight in &weights {
-            let before = through;
+            let both = (before, part);
+            before = through;
             through += weight;
-            let part = ours(p, before, through, w);
+            part = ours(p, before, through, w);
             total += part;
             assert!(weight > 0 || part == 0, "{} over {:?}", p, weights);
+            assert!(ours(p, both.0, through, w) == both.1 + part, "{} over {:?}, neighbours", p, weights);
         }
         assert!(total == p, "{} over {:?} totals {}", p, weights, total);
     }
-    println!("no differences; {} lists of weights, the parts of each total its amount", lists);
+    println!("no differences; {} lists of weights, the parts of each total its amount, those of neighbours the part of both", lists);
 }
 
 // ---- benchmark

@@ -1,14 +1,18 @@
 -- WHAT A CALLER IN C LEARNS, in paper 01's words ("The month file", last paragraph): from `Reads.Learnt`, generated of the checked
 -- contracts of `rateio_share` and `rateio_check`, so that a contract that promises less is refused here. Nothing is assumed of a caller.
 use Prim.Native.Nat.{_≤_}
-use mathlib.Core.Path.{_≡_, refl, sym, ap, _∙_, subst}
+use mathlib.Core.Path.{_≡_, refl, sym, ap, ap₂, _∙_, subst}
 use lib.ListN.{length}
-use lib.IntN.{ℤ}
+use lib.IntN.{ℤ, pos, _+ℤ_}
 use contract.Lifetimes.{Lfts}
 use denote.Ref.{now}
 use denote.Triple.Entry.{Args, Res}
 use denote.Triple.Clauses.{Lasts, atExit}
+use Rattle.ints.specs.Order.{≤-trans}
+use Rattle.share.specs.Running.{part}
+use Rattle.share.specs.OnePart.{part-add, part-none}
 use Rattle.share.specs.Answer.{sharing, seenByC}
+use Rattle.share.specs.Limits.{AmountWithin, TotalWithin, SumsWithin}
 use Rattle.share.proofs.Limits.{share-limits}
 use Rattle.format.specs.Language.{Checked}
 use Rattle.format.specs.Saved.{Saved, movedNumber}
@@ -39,6 +43,19 @@ seen P b t W =
 pub share-learnt : (κs : Lfts 0) (a : Args share.signature κs) (r : Res share.signature κs) (last : Lasts share.ended κs a)
     → share-reads.Learnt κs a r (atExit share.ended κs a last) → SeenShare (a .0) (a .1 .0) (a .1 .1 .0) (a .1 .1 .1 .0) r
 share-learnt κs a r last l = subst (λ (x : ℤ). SeenShare (a .0) (a .1 .0) (a .1 .1 .0) (a .1 .1 .1 .0) x) (sym l) (seen _ _ _ _)
+
+-- SISTER LINES (paper 02, Q-13), of what the share answers: neighbours receive together what one line of both receives, a weight of 0
+-- receives 0
+module _ {P b t W : ℤ} (p : AmountWithin P) (w : TotalWithin W) (first : SumsWithin b t W) where
+  pub neighbours-learnt : {u x y z : ℤ} → SumsWithin t u W → SeenShare P b t W x → SeenShare P t u W y → SeenShare P b u W z → x +ℤ y ≡ z
+  unfolding part
+  neighbours-learnt {u} second one other line =
+      let both : SumsWithin b u W = record { low = first .low; between = ≤-trans (first .between) (second .between); high = second .high } in
+      ap₂ _+ℤ_ (one .part p w first) (other .part p w second) ∙ part-add P b t u W ∙ sym (line .part p w both)
+
+  pub nothing-learnt : {x : ℤ} → b ≡ t → SeenShare P b t W x → x ≡ pos 0
+  unfolding part
+  nothing-learnt e line = line .part p w first ∙ rw e (part-none P t W)
 
 -- THE FILE CHECK: −1 for files on end, else the place of the 11; −2 over 10^15 bytes
 pub check-learnt : (κs : Lfts 1) (a : Args check.signature κs) (r : Res check.signature κs) (last : Lasts check.ended κs a)

@@ -1,4 +1,5 @@
--- Paper 01's cases b and c ("Checked by hand"), and one call for each refusal of the exported share, worked out from the definitions.
+-- Paper 01's cases b and c ("Checked by hand"), sister lines, and one call for each refusal of the exported share, worked out from the
+-- definitions.
 use Prim.Native.Nat.{_+_, _^_}
 use mathlib.Core.Path.{_≡_, refl}
 use mathlib.Core.List.{List, [], _∷_, _++_, map}
@@ -7,6 +8,7 @@ use Rattle.ints.specs.Floor.{floor}
 use Rattle.ints.specs.Range.{outside}
 use Rattle.ints.specs.Sums.{sumℤ}
 use Rattle.share.specs.Running.{part, partsFrom, runningShare}
+use Rattle.share.specs.Joined.{joined, leftOut}
 use Rattle.share.specs.Answer.{ShareAnswer, answers, refuses, sharing, seenByC}
 
 -- b) −1106 over 1000, 2000 and c) 30 over 300, 1700
@@ -14,6 +16,18 @@ pub by-hand : runningShare (negℤ (pos 1106)) (pos 1000 ∷ pos 2000 ∷ []) �
     ∷ [] ≡ (negℤ (pos 369) ∷ negℤ (pos 737) ∷ []) ∷ (pos 4 ∷ pos 26 ∷ []) ∷ []
 unfolding floor part partsFrom runningShare sumℤ
 by-hand = refl
+
+-- sister lines (paper 02, Q-13): −1106 over 1000, 700, 0, 1300; with the first two as one; without the third
+abbrev four : List ℤ
+four = pos 1000 ∷ pos 700 ∷ pos 0 ∷ pos 1300 ∷ []
+
+pub sisters : map (runningShare (negℤ (pos 1106))) (four ∷ joined 0 four ∷ leftOut 2 four ∷ [])
+    ≡ (negℤ (pos 369) ∷ negℤ (pos 258) ∷ pos 0 ∷ negℤ (pos 479) ∷ [])
+    ∷ (negℤ (pos 627) ∷ pos 0 ∷ negℤ (pos 479) ∷ [])
+    ∷ (negℤ (pos 369) ∷ negℤ (pos 258) ∷ negℤ (pos 479) ∷ [])
+    ∷ []
+unfolding floor part partsFrom runningShare sumℤ joined leftOut
+sisters = refl
 
 -- what a call of the exported share gives, and what C sees
 abbrev pub Told : Type 0

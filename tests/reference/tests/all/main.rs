@@ -7,5 +7,6 @@ mod consulta;
 mod files;
 mod line_ends;
 mod runs;
+mod sisters;
 mod tables;
 mod vectors;
