@@ -3,7 +3,7 @@
 use Prim.Native.Nat.{ℕ}
 use native.Mathlib.Omega.{arith}
 use mathlib.Core.Path.{_≡_, refl}
-use mathlib.Core.List.{List, [], _∷_, map}
+use mathlib.Core.List.{List, [], _∷_, _++_, map}
 use lib.IntN.{ℤ, pos, negℤ}
 use lib.ListN.{length, replicate}
 use Rattle.ints.specs.Floor.{floor}
@@ -164,10 +164,12 @@ correctedOne = corrected [] 2
 
 -- ---- each is a month that closing takes
 abbrev months : List Lines
-months =
-    apart ∷ agentsOne ∷ usersOne ∷ four ∷ agentsJoined ∷ agentOut ∷ usersJoined ∷ userOut ∷ adjustedApart ∷ adjustedOne ∷ correctedApart ∷ correctedOne ∷ []
+months = apart ∷ agentsOne ∷ usersOne ∷ four ∷ agentsJoined ∷ agentOut ∷ usersJoined ∷ userOut ∷ []
 
-pub taken : map (λ (l : Lines). refusal (new l) accepted l) months ≡ replicate 12 accepted
+abbrev unclaimed : List Lines
+unclaimed = adjustedApart ∷ adjustedOne ∷ correctedApart ∷ correctedOne ∷ []
+
+pub taken : map (λ (l : Lines). refusal (new l) accepted l) (months ++ unclaimed) ≡ replicate 12 accepted
 unfolding refusal badCounts badMonth countTests stateTests linesBeforePoints lineTests sumTests eachLine badAgent badUser badPoint unfitPoint outside
     impossibleMonth monthOfYear floor eachFrom sideBySide sumℤ halfUp orZero useCharge allowance excess overrun ofUser EUSTs overrunSums VMEs pvTotal CPVs ns
     VDs part partsFrom runningShare kindOf

@@ -25,7 +25,7 @@ pub record AgentsAsOne (k : ℕ) (l m : Lines) : Type 0 where
   pub users : m .users ≡ l .users
   pub points : m .points ≡ l .points
 
--- then, with the same held credits: users owe the same; the joined agent receives what the two received, and every other payee the same
+-- then, with the same held credits: users owe and hold the same; the joined agent receives what the two received, and every other payee the same
 pub record AgentsReceive (k : ℕ) (s : State) (l : Lines) (t : State) (m : Lines) : Type 0 where
   pub debits : VDs t m ≡ VDs s l
   pub held : newCredits t m ≡ newCredits s l
