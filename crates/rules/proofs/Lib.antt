@@ -42,6 +42,7 @@ pub mod Sides
 pub mod Totals
 pub mod Blind
 pub mod Cycle
+pub mod Bands
 pub mod SisterAgents
 pub mod SisterUsers
 pub mod SistersWorked

@@ -13,6 +13,7 @@ pub mod Table
 pub mod Refusals
 pub mod Limits
 pub mod TariffYear
+pub mod Bands
 pub mod Sisters
 pub mod Tested
 pub mod Calls

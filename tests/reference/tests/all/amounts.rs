@@ -1,7 +1,7 @@
 //! Properties of shares, charges and credits over seeded months.
 
 use rateio_reference::amounts::Amounts;
-use rateio_reference::charges::{allowance, overrun, use_charge};
+use rateio_reference::charges::overrun;
 use rateio_reference::credits::{cycle_month, vmpa};
 use rateio_reference::lines::{Point, CONSUMER, DISTRIBUTOR, GENERATOR};
 use rateio_reference::months::{self, counts_up_to, sound_month, Counts, STYLES};
@@ -68,34 +68,6 @@ fn c_sees_the_first_refusal() {
         assert_eq!(share_c(-most, before, through, 10), C_REFUSAL - 3);
     }
     assert_eq!(C_REFUSAL - 1, -1_000_000_000_000_000_001);
-}
-
-/// Whether `cents` are `thousandths` of a cent rounded to the nearest, a half going up.
-fn is_half_up(cents: i128, thousandths: i128) -> bool {
-    let above = 1000 * cents - thousandths;
-    -500 < above && above <= 500
-}
-
-#[test]
-fn charges_of_a_point_are_rounded_once() {
-    let mut rng = Rng::new(3);
-    let mut halves = 0;
-    for _ in 0..4_000 {
-        let style = rng.pick(&STYLES);
-        let lines = months::month(&mut rng, style, Counts { users: 1, agents: 1, points: 3 });
-        let kind = lines.users[0].kind;
-        for point in &lines.points {
-            let [_, tp, tf, dp, df, mp, mf, vp, vf] = point.columns().map(i128::from);
-            let used = tp * (100 - dp) * mp + tf * (100 - df) * mf;
-            assert!(is_half_up(use_charge(point), used));
-            halves += usize::from(used % 1000 == 500);
-            let excess = |verified: i128, contracted: i128| (100 * verified - allowance(kind) * contracted).max(0);
-            let over = 3 * (tp * excess(vp, mp) + tf * excess(vf, mf));
-            assert!(is_half_up(overrun(kind, point), over));
-            assert_eq!(overrun(kind, point), overrun(kind, &Point { dp: 0, df: 0, ..*point }));
-        }
-    }
-    assert!(halves > 100, "half cents have to come up");
 }
 
 #[test]

@@ -1,6 +1,7 @@
 //! The reference calculation's tests, as one program.
 
 mod amounts;
+mod bands;
 mod by_hand;
 mod closings;
 mod consulta;
