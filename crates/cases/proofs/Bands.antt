@@ -22,9 +22,9 @@ unfolding after verdicts refusal badCounts shortSlices badMonth countTests state
 by-band =
     record {
       answers = refl;
-      first = record { EUST = refl; overrun-sums = refl; CPV = refl; VD = refl; balance = refl; VMANT = refl; VC = refl };
-      second = record { EUST = refl; overrun-sums = refl; CPV = refl; VD = refl; balance = refl; VMANT = refl; VC = refl };
-      third = record { EUST = refl; overrun-sums = refl; CPV = refl; VD = refl; balance = refl; VMANT = refl; VC = refl };
+      first = refl;
+      second = refl;
+      third = refl;
       once-more = refl;
       once-less = refl;
       once-over = refl;

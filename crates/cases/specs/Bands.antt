@@ -7,7 +7,7 @@ use lib.IntN.{ℤ, pos}
 use Rattle.rules.specs.Verdict.{accepted, refused}
 use Rattle.rules.specs.declared.Point.{Point}
 use Rattle.rules.specs.Lists.{eachFrom}
-use Rattle.rules.specs.Lines.{User, monthLines, pointOf}
+use Rattle.rules.specs.Lines.{User, Lines, monthLines, pointOf}
 use Rattle.rules.specs.State.{State}
 use Rattle.rules.specs.Charges.{ofUser, EUSTs, overrunSums, CPVs, VDs}
 use Rattle.rules.specs.Bands.{useOnce, overrunOnce}
@@ -57,15 +57,9 @@ over = month 202409 3 (
 abbrev pub none : Fed
 none = month 202410 0 ((1 ∷ 4 ∷ 4 ∷ 0 ∷ 0 ∷ 1 ∷ 1 ∷ 1 ∷ 1 ∷ []) ∷ [])
 
--- EUST, overruns, CPV and VD by user, SMSE, VMANT by agent, VC by payee
-pub record Amounts (s : State) (f : Fed) (eust overruns cpv vd : List ℕ) (smse : ℤ) (vmant : List ℤ) (vc : List ℕ) : Type 0 where
-  pub EUST : EUSTs (f .lines) ≡ these eust
-  pub overrun-sums : overrunSums (f .lines) ≡ these overruns
-  pub CPV : CPVs (f .lines) ≡ these cpv
-  pub VD : VDs s (f .lines) ≡ these vd
-  pub balance : SMSE s (f .lines) ≡ smse
-  pub VMANT : VMANTs s (f .lines) ≡ vmant
-  pub VC : VCs s (f .lines) ≡ these vc
+-- EUST, overruns, CPV and VD by user; SMSE; VMANT by agent; VC by payee
+abbrev pub amounts : State → Lines → List (List ℤ)
+amounts s l = EUSTs l ∷ overrunSums l ∷ CPVs l ∷ VDs s l ∷ (SMSE s l ∷ []) ∷ VMANTs s l ∷ VCs s l ∷ []
 
 -- the tally after these months
 abbrev pub before : List Fed → State
@@ -78,14 +72,35 @@ once f m = eachFrom 1 (λ k u. ofUser (f u) k (m .lines .points)) (m .lines .use
 pub record ByBand : Type 0 where
   pub answers : verdicts (opened 3 2) (more ∷ less ∷ over ∷ none ∷ []) ≡ accepted ∷ accepted ∷ accepted ∷ refused 10 0 ∷ []
   pub first :
-      Amounts (before []) more (403 ∷ 403 ∷ 481 ∷ []) (0 ∷ 0 ∷ 0 ∷ []) (0 ∷ 1 ∷ 2 ∷ []) (403 ∷ 402 ∷ 479 ∷ []) (minus 1813) (minus 605 ∷ minus 1208 ∷ [])
-      (392 ∷ 792 ∷ 100 ∷ [])
+      amounts (before []) (more .lines)
+      ≡ these (403 ∷ 403 ∷ 481 ∷ [])
+      ∷ these (0 ∷ 0 ∷ 0 ∷ [])
+      ∷ these (0 ∷ 1 ∷ 2 ∷ [])
+      ∷ these (403 ∷ 402 ∷ 479 ∷ [])
+      ∷ (minus 1813 ∷ [])
+      ∷ (minus 605 ∷ minus 1208 ∷ [])
+      ∷ these (392 ∷ 792 ∷ 100 ∷ [])
+      ∷ []
   pub second :
-      Amounts (before (more ∷ [])) less (130 ∷ 80 ∷ 481 ∷ []) (0 ∷ 0 ∷ 0 ∷ []) (0 ∷ 0 ∷ 3 ∷ []) (130 ∷ 80 ∷ 478 ∷ []) (minus 2409)
-      (minus 803 ∷ minus 1606 ∷ []) (194 ∷ 394 ∷ 100 ∷ [])
+      amounts (before (more ∷ [])) (less .lines)
+      ≡ these (130 ∷ 80 ∷ 481 ∷ [])
+      ∷ these (0 ∷ 0 ∷ 0 ∷ [])
+      ∷ these (0 ∷ 0 ∷ 3 ∷ [])
+      ∷ these (130 ∷ 80 ∷ 478 ∷ [])
+      ∷ (minus 2409 ∷ [])
+      ∷ (minus 803 ∷ minus 1606 ∷ [])
+      ∷ these (194 ∷ 394 ∷ 100 ∷ [])
+      ∷ []
   pub third :
-      Amounts (before (more ∷ less ∷ [])) over (1316 ∷ 2680 ∷ 481 ∷ []) (394 ∷ 403 ∷ 384 ∷ []) (0 ∷ 2 ∷ 1 ∷ []) (1710 ∷ 3081 ∷ 864 ∷ []) (pos 2558)
-      (these (852 ∷ 1706 ∷ [])) (1849 ∷ 3706 ∷ 100 ∷ [])
+      amounts (before (more ∷ less ∷ [])) (over .lines)
+      ≡ these (1316 ∷ 2680 ∷ 481 ∷ [])
+      ∷ these (394 ∷ 403 ∷ 384 ∷ [])
+      ∷ these (0 ∷ 2 ∷ 1 ∷ [])
+      ∷ these (1710 ∷ 3081 ∷ 864 ∷ [])
+      ∷ these (2558 ∷ [])
+      ∷ these (852 ∷ 1706 ∷ [])
+      ∷ these (1849 ∷ 3706 ∷ 100 ∷ [])
+      ∷ []
   -- rounded together they were
   pub once-more : once (λ u. useOnce) more ≡ these (402 ∷ 402 ∷ 481 ∷ [])
   pub once-less : once (λ u. useOnce) less ≡ these (131 ∷ 81 ∷ 481 ∷ [])
