@@ -17,10 +17,10 @@ use Rattle.format.specs.Values.{readDigits, readValue, readLine, readLines, rea
 use Rattle.format.specs.Reading.{scan, scanAt, reading}
 use Rattle.rules.specs.Verdict.{eachLine}
 use Rattle.rules.specs.Lists.{eachFrom, sideBySide}
-use Rattle.rules.specs.Calendar.{monthOfYear, impossibleMonth, cycleMonth}
+use Rattle.rules.specs.Calendar.{monthOfYear, impossibleMonth, cycleMonth, settledTo}
 use Rattle.rules.specs.Lines.{kindOf, badAgent, badUser, badPoint, unfitPoint}
 use Rattle.rules.specs.Charges.{halfUp, orZero, useCharge, allowance, excess, overrun, ofUser, EUSTs, overrunSums, VMEs, pvTotal, CPVs, ns, VDs, newCredits}
-use Rattle.rules.specs.Credits.{VMPA, VMST, ownCredit, ownCredits, SMSEFrom, VMANTsFrom, agentVCsFrom, VCsFrom}
+use Rattle.rules.specs.Credits.{VMPA, VMST, ownCredit, ownCreditsFrom, SMSEFrom, VMANTsFrom, agentVCsFrom, VCsFrom}
 use Rattle.rules.specs.Table.{Cell, rounded-down, rounded-up}
 use Rattle.rules.specs.Refusals.{badCounts, shortSlices, badMonth, countTests, stateTests, linesBeforePoints, lineTests, sumTests, refusal}
 use Rattle.rules.specs.Tally.{after, verdicts}
@@ -33,7 +33,7 @@ a : A
 unfolding reading scanAt scan readBlocks readLines readLine readValue readDigits format more line inValue enter step refusal badCounts shortSlices badMonth
     countTests stateTests linesBeforePoints lineTests sumTests eachLine outside impossibleMonth monthOfYear kindOf badAgent badUser badPoint unfitPoint floor
     sumℤ Σ< eachFrom sideBySide halfUp orZero useCharge allowance excess overrun ofUser EUSTs overrunSums VMEs pvTotal CPVs ns VDs newCredits runningShare
-    partsFrom part cycleMonth VMPA VMST ownCredit ownCredits SMSEFrom VMANTsFrom agentVCsFrom VCsFrom
+    partsFrom part cycleMonth settledTo VMPA VMST ownCredit ownCreditsFrom SMSEFrom VMANTsFrom agentVCsFrom VCsFrom
 a =
     record {
       read-whole = refl;
@@ -105,11 +105,11 @@ unfolding overrun excess allowance orZero halfUp floor
 g = refl
 
 h : H
-unfolding VMPA cycleMonth monthOfYear floor
+unfolding VMPA settledTo cycleMonth monthOfYear floor
 h = refl
 
 i : I
-unfolding VMPA cycleMonth monthOfYear floor
+unfolding VMPA settledTo cycleMonth monthOfYear floor
 i = refl
 
 j : J

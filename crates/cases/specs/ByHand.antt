@@ -10,7 +10,7 @@ use Rattle.format.specs.Blocks.{slices}
 use Rattle.format.specs.Reading.{reading, accepted as read}
 use Rattle.format.specs.Example.{input, values}
 use Rattle.rules.specs.Verdict.{accepted}
-use Rattle.rules.specs.Calendar.{cycleMonth}
+use Rattle.rules.specs.Calendar.{cycleMonth, settledTo}
 use Rattle.rules.specs.Lines.{consumer}
 use Rattle.rules.specs.State.{State}
 use Rattle.rules.specs.July.{july}
@@ -50,7 +50,7 @@ pub record A : Type 0 where
   pub held : newCredits none july ≡ these (0 ∷ 0 ∷ [])
   -- credits
   pub VMSTs : map VMST (july .agents) ≡ these (1000 ∷ 1970 ∷ [])
-  pub VMPAs : map (VMPA (cycleMonth (july .line .month))) (july .agents) ≡ these (0 ∷ 2 ∷ [])
+  pub VMPAs : map (VMPA (settledTo (pos 0) (july .line .month)) (cycleMonth (july .line .month))) (july .agents) ≡ these (0 ∷ 2 ∷ [])
   pub balance : SMSE none july ≡ minus 1106
   pub VMANT : VMANTs none july ≡ minus 369 ∷ minus 737 ∷ []
   pub VC : VCs none july ≡ these (635 ∷ 1235 ∷ 100 ∷ [])

@@ -4,7 +4,7 @@ use mathlib.Core.List.{List, [], _∷_, map}
 use lib.IntN.{ℤ, pos, negℤ}
 use Rattle.format.specs.Grammar.{File}
 use Rattle.rules.specs.declared.Point.{Point}
-use Rattle.rules.specs.Calendar.{cycleMonth}
+use Rattle.rules.specs.Calendar.{cycleMonth, settledTo}
 use Rattle.rules.specs.Credits.{VMPA}
 use Rattle.rules.specs.Lines.{Lines, monthLines, agentOf, userOf, pointOf}
 use Rattle.rules.specs.Table.{cellAt}
@@ -34,9 +34,9 @@ column j cells = cellAt 2 cells 0 j ∷ cellAt 2 cells 1 j ∷ cellAt 2 cells 2 
 abbrev pub peak : ℕ → ℕ → ℕ → Point
 peak tp mp vp = pointOf (these (1 ∷ tp ∷ 0 ∷ 0 ∷ 0 ∷ mp ∷ 0 ∷ vp ∷ 0 ∷ []))
 
--- h, i) VMPA of an agent with this yearly adjustment, in this month
+-- h, i) VMPA of an agent with this yearly adjustment, in this month, with none closed before
 abbrev pub VMPAin : ℤ → ℕ → ℤ
-VMPAin pa m = VMPA (cycleMonth (pos m)) (agentOf (pos 1 ∷ pos 0 ∷ pos 0 ∷ pos 0 ∷ pos 0 ∷ pa ∷ pos 0 ∷ []))
+VMPAin pa m = VMPA (settledTo (pos 0) (pos m)) (cycleMonth (pos m)) (agentOf (pos 1 ∷ pos 0 ∷ pos 0 ∷ pos 0 ∷ pos 0 ∷ pa ∷ pos 0 ∷ []))
 
 -- j) two months of two consumers and one agent. User 1 has a correction of −50 and no charges in the first, charges of 80 in the second;
 -- user 2 owes 100 in both, so that neither month comes back with 10

@@ -8,6 +8,7 @@ use lib.ListN.{length, take, length-append, length-map}
 use lib.Seq.{take-at}
 use Rattle.ints.specs.Bridge.{za}
 use Rattle.ints.specs.Bounds.{word-wide, word-nonneg, words-small}
+use Rattle.rules.specs.declared.Ledger.{Ledger}
 use Rattle.rules.specs.declared.MonthLine.{MonthLine}
 use Rattle.rules.specs.Verdict.{Verdict}
 use Rattle.rules.specs.Lines.{Lines, agentOf}
@@ -42,8 +43,8 @@ fillable-passed s l w p =
       equal = t .credits-are-debits;
     }
 
-module _ {bills : Bills} {line : MonthLine} {agents : List (List ℤ)} {held cells : List ℤ} {work : List ℕ} {st : State} {short : Verdict} {l : Lines} (w
-    : Writable bills line agents held cells work st short l) where
+module _ {bills : Bills} {line : MonthLine} {agents : List (List ℤ)} {held cells : List ℤ} {work : List ℕ} {ledger : Ledger}
+    {st : State} {short : Verdict} {l : Lines} (w : Writable bills line agents held cells work ledger st short l) where
   p : Passed st l
   p = passed st short l (w .accepts)
 
@@ -66,11 +67,11 @@ module _ {bills : Bills} {line : MonthLine} {agents : List (List ℤ)} {held cel
   few-agents = omega (arith, agent-count, p .agents, p .few-agents)
 
   -- ---- the credits of the payees
-  pub payable : Payable (bills .total) line (map agentOf agents)
-  payable = rw (w .line-is, w .bills-are .total, w .agents-are) (payable-passed st l (w .one-each) p)
+  pub payable : Payable (bills .total) (ledger .month) line (map agentOf agents)
+  payable = rw (w .last-is, w .line-is, w .bills-are .total, w .agents-are) (payable-passed st l (w .one-each) p)
 
-  pub credits-are : VCsFrom (bills .total) line (map agentOf agents) ≡ VCs st l
-  credits-are = rw (w .line-is, w .bills-are .total, w .agents-are)
+  pub credits-are : VCsFrom (bills .total) (ledger .month) line (map agentOf agents) ≡ VCs st l
+  credits-are = rw (w .last-is, w .line-is, w .bills-are .total, w .agents-are)
 
   pub payee-count : length (VCs st l) ≡ length agents + 1
   payee-count = omega (arith, length-VCs st l, agent-count)

@@ -4,6 +4,7 @@ use mathlib.Core.Path.{_≡_}
 use mathlib.Core.List.{List, map}
 use lib.IntN.{ℤ}
 use lib.ListN.{length}
+use Rattle.rules.specs.declared.Ledger.{Ledger}
 use Rattle.rules.specs.declared.MonthLine.{MonthLine}
 use Rattle.rules.specs.Verdict.{Verdict, accepted}
 use Rattle.rules.specs.Lines.{Lines, agentOf}
@@ -16,10 +17,11 @@ use Rattle.charges.specs.declared.month.Bills.{Bills}
 use Rattle.charges.specs.Month.{Billed}
 
 -- nothing refuses the lines l on the state st, whose credits are one for each user; the bills are theirs, and every slice has the room
-pub record Writable (bills : Bills) (line : MonthLine) (agents : List (List ℤ)) (held cells : List ℤ) (work : List ℕ) (st : State) (short : Verdict) (l : Lines)
-    : Type 0 where
+pub record Writable (bills : Bills) (line : MonthLine) (agents : List (List ℤ)) (held cells : List ℤ) (work : List ℕ) (ledger : Ledger)
+    (st : State) (short : Verdict) (l : Lines) : Type 0 where
   pub accepts : refusal st short l ≡ accepted
   pub one-each : length (st .credits) ≡ st .users
+  pub last-is : ledger .month ≡ st .month
   pub line-is : line ≡ l .line
   pub agents-are : map agentOf agents ≡ l .agents
   pub bills-are : Billed (length held) st l bills

@@ -7,6 +7,7 @@ ghost use Rattle.rules.specs.State.{State};
 ghost use Rattle.closing.specs.Written.{Writable, Written};
 use charges::month::Bills;
 use rules::AgentLine;
+use rules::Ledger;
 use rules::MonthLine;
 
 // Copies every entry.
@@ -31,11 +32,12 @@ pub fn write(
     held: &mut [i64],
     cells: &mut [i64],
     work: &mut [u64],
+    ledger: Ledger,
 )
     requires { ⌜ ((st : State) × (short : Verdict) × (l : Lines)
-        × Writable bills line (now agents) (now held) (now cells) (now work) st short l) ⌝ }
+        × Writable bills line (now agents) (now held) (now cells) (now work) ledger st short l) ⌝ }
     ensures { λ _. ⌜ ((st : State) (short : Verdict) (l : Lines)
-        → Writable bills line (now (agents .entry)) (now (held .entry)) (now (cells .entry)) (now (work .entry)) st short l
+        → Writable bills line (now (agents .entry)) (now (held .entry)) (now (cells .entry)) (now (work .entry)) ledger st short l
         → Written st l (now (work .entry)) (now (held .exit)) (now (cells .exit)) (now (work .exit))) ⌝ }
 {
     let n = held.len();
@@ -44,7 +46,7 @@ pub fn write(
     let debits = bills.debits;
     let credits = bills.credits;
     let mut vc = [0i64; 257];
-    credits::payees::vcs(total, line, agents, &mut vc[..m]);
+    credits::payees::vcs(total, ledger.month, line, agents, &mut vc[..m]);
     cells::fill(&vc[..m], &debits[..n], cells, work);
     copy(&credits[..n], held);
 }

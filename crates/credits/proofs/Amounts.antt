@@ -3,7 +3,6 @@ use Prim.Native.Nat.{ℕ, _≤_}
 use native.Mathlib.Omega.{arith}
 use native.Mathlib.Nat.{le-trans}
 use mathlib.Core.Path.{_≡_, refl, sym, _∙_}
-use mathlib.Core.Bool.{false}
 use mathlib.Core.List.{List, map}
 use lib.Dec.{T, leb}
 use lib.IntN.{ℤ}
@@ -14,14 +13,13 @@ use Rattle.ints.specs.Sums.{sumℤ, Small}
 use Rattle.ints.specs.Adding.{Summable}
 use Rattle.share.specs.Filling.{Fillable}
 use Rattle.share.specs.Laws.{parts-small}
-use Rattle.rules.specs.Calendar.{impossibleMonth, cycleMonth}
 use Rattle.rules.specs.Most.{mostAmount, mostBalance, mostDebits, mostOwn, mostParcels}
 use Rattle.rules.specs.Lines.{Agent}
 use Rattle.rules.specs.declared.MonthLine.{MonthLine}
+use Rattle.rules.specs.Ranges.{MonthAfter}
 use Rattle.rules.specs.Charges.{pvs}
-use Rattle.rules.specs.Credits.{ownCredit, ownCredits, SMSEFrom, pbs, VMANTsFrom}
-use Rattle.rules.proofs.Fits.{possible}
-use Rattle.rules.proofs.Cycle.{cycle-within}
+use Rattle.rules.specs.Credits.{ownCredit, ownCreditsFrom, SMSEFrom, pbs, VMANTsFrom}
+use Rattle.rules.proofs.Cycle.{twelfths}
 use Rattle.rules.proofs.BoundsAgent.{agent-bounds, amount}
 use Rattle.rules.proofs.BoundsSums.{column}
 use Rattle.credits.specs.Columns.{AgentLines}
@@ -49,32 +47,31 @@ module _ {agents : List Agent} (l : AgentLines agents) where
   pub pv-summable : Summable (pvs agents)
   pv-summable = summable _ (column (λ (a : Agent). a .pv) agents (λ i h. amount (l .line i h .pv))) tt tt
 
-  module _ (line : MonthLine) (p : impossibleMonth (line .month) ≡ false) where
-    own-words : Words 400000000000 400000000000 (ownCredits line agents)
-    unfolding ownCredits ownCredit
-    own-words = column (ownCredit (line .month)) agents (λ i h. agent-bounds (cycleMonth (line .month)) (cycle-within (line .month) (possible (line .month) p))
-        (l .line i h) .own)
+  module _ (last : ℤ) (line : MonthLine) (m : MonthAfter last (line .month)) where
+    own-words : Words 400000000000 400000000000 (ownCreditsFrom last line agents)
+    unfolding ownCreditsFrom ownCredit
+    own-words = column _ agents (λ i h. agent-bounds (twelfths m) (l .line i h) .own)
 
-    pub own-small : Small 400000000000 (ownCredits line agents)
+    pub own-small : Small 400000000000 (ownCreditsFrom last line agents)
     own-small = small-of 400000000000 own-words tt tt
 
-    pub own-summable : Summable (ownCredits line agents)
-    unfolding ownCredits
+    pub own-summable : Summable (ownCreditsFrom last line agents)
+    unfolding ownCreditsFrom
     own-summable = summable _ own-words tt tt
 
-    pub own-total : Word mostOwn mostOwn (sumℤ (ownCredits line agents))
-    unfolding ownCredits
+    pub own-total : Word mostOwn mostOwn (sumℤ (ownCreditsFrom last line agents))
+    unfolding ownCreditsFrom
     own-total = word-total 400000000000 256 _ own-words (few _) tt
 
-module _ {debits : ℤ} {line : MonthLine} {agents : List Agent} (p : Payable debits line agents) where
+module _ {debits last : ℤ} {line : MonthLine} {agents : List Agent} (p : Payable debits last line agents) where
   owed : Word 0 mostDebits debits
   owed = let w = p .owed in word (omega za) (omega za) tt
 
-  balance : Word 102500000000000 mostBalance (SMSEFrom debits line agents)
+  balance : Word 102500000000000 mostBalance (SMSEFrom debits last line agents)
   unfolding SMSEFrom
-  balance = word-sub (word-sub owed (own-total (p .lines) line (p .possible)) tt) (amount (p .fee)) tt
+  balance = word-sub (word-sub owed (own-total (p .lines) last line (p .months)) tt) (amount (p .fee)) tt
 
-  pub fillable : {parts : List ℤ} → length parts ≡ length agents → Fillable (SMSEFrom debits line agents) (sumℤ (pbs agents)) (pbs agents) parts
+  pub fillable : {parts : List ℤ} → length parts ≡ length agents → Fillable (SMSEFrom debits last line agents) (sumℤ (pbs agents)) (pbs agents) parts
   fillable e = record {
     amount = le-trans (word-abs (word-wide mostBalance mostBalance balance tt tt)) (omega arith);
     weights = words-nonneg (pb-words (p .lines));
@@ -84,8 +81,8 @@ module _ {debits : ℤ} {line : MonthLine} {agents : List Agent} (p : Payable de
     long = e ∙ sym (rw length-map refl);
   }
 
-  pub parts-within : Small mostBalance (VMANTsFrom debits line agents)
+  pub parts-within : Small mostBalance (VMANTsFrom debits last line agents)
   unfolding VMANTsFrom
   parts-within =
-      let s = parts-small (SMSEFrom debits line agents) _ (words-nonneg (pb-words (p .lines))) (p .weighed) in
+      let s = parts-small (SMSEFrom debits last line agents) _ (words-nonneg (pb-words (p .lines))) (p .weighed) in
       record { small = λ i h. le-trans (s .small i h) (word-abs (word-wide mostBalance mostBalance balance tt tt)) }

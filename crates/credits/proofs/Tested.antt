@@ -15,7 +15,7 @@ use Rattle.rules.specs.State.{State}
 use Rattle.rules.specs.Credits.{pbs}
 use Rattle.rules.specs.Refusals.{agentTest}
 use Rattle.rules.proofs.Tests.{when-accepted, each-from-1}
-use Rattle.rules.proofs.Fits.{not-impossible, agent-fits}
+use Rattle.rules.proofs.Fits.{agent-fits}
 use Rattle.rules.proofs.Passed.{Passed}
 use Rattle.rules.proofs.Ranged.{Ranged, ranged-passed}
 use Rattle.rules.proofs.BoundsCharges.{charge-bounds}
@@ -38,11 +38,11 @@ pub payable :
     → Ranged s l
     → (pos 0 <ℤ pvTotal l → sumℤ (EUSTs l) ≢ pos 0)
     → sumℤ (pbs (l .agents)) ≢ pos 0
-    → Payable (sumℤ (VDs s l)) (l .line) (l .agents)
+    → Payable (sumℤ (VDs s l)) (s .month) (l .line) (l .agents)
 payable r nine eight =
     let w = charge-bounds r nine .VD-total in
     record {
-      possible = not-impossible (r .month);
+      months = r .months;
       fee = r .ons;
       owed = record { above = omega za; below = omega za };
       lines = agent-lines r;
@@ -50,5 +50,5 @@ payable r nine eight =
     }
 
 -- a month that breaks no limit
-pub payable-passed : (s : State) (l : Lines) → length (s .credits) ≡ s .users → Passed s l → Payable (sumℤ (VDs s l)) (l .line) (l .agents)
+pub payable-passed : (s : State) (l : Lines) → length (s .credits) ≡ s .users → Passed s l → Payable (sumℤ (VDs s l)) (s .month) (l .line) (l .agents)
 payable-passed s l w p = payable (ranged-passed s l w p) (p .EUST-total) (p .pb-total)

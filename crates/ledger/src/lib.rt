@@ -110,6 +110,7 @@ fn finish(
                 &mut held[..u],
                 &mut cells[..c],
                 work,
+                ledger,
             );
             Outcome {
                 answer: Answer::Accepted,

@@ -47,7 +47,7 @@ pub record CellBounds (s : State) (l : Lines) : Type 0 where
       → Word mostCredit 1792400000000001 c
 
 pub record Bounds (s : State) (l : Lines) : Type 0 where
-  pub sums : SumBounds l
+  pub sums : SumBounds s l
   pub charges : ChargeBounds s l
   pub payees : CreditBounds s l
   pub cells : CellBounds s l

@@ -9,18 +9,19 @@ use borrow.Author.Tests.{ne-eqb, not-true, ltb-true, ltb-false}
 use lib.Dec.{T, eqb, ltb}
 use lib.Ieee.Bits.{is-true}
 use lib.IntN.{ℤ, pos, negsuc, _+ℤ_, _-ℤ_, _*ℤ_}
-use Rattle.ints.specs.Bridge.{za, add#, sub#, mul#}
+use Rattle.ints.specs.Bridge.{za, add#, sub#, mul#, one#}
 use Rattle.ints.specs.Computed.{below, below-at}
 use Rattle.ints.specs.Floor.{floor}
 use Rattle.ints.specs.Range.{Within, outside, outside-false, eqZ, eqZ-true}
 use Rattle.ints.specs.Sums.{Σ<, Σ-ext}
 use Rattle.share.specs.OnePart.{floor-none, floor-whole}
-use Rattle.rules.specs.Calendar.{monthOfYear, inCycle, cycleMonth}
+use Rattle.rules.specs.Calendar.{monthOfYear, inCycle, cycleMonth, settledTo}
+use Rattle.rules.specs.Ranges.{MonthAfter, Twelfths}
 use Rattle.rules.specs.Limits.{Month}
 use Rattle.rules.specs.TariffYear.{TariffYear}
 use Rattle.rules.specs.Lines.{Agent}
 use Rattle.rules.specs.Credits.{VMPA}
-use Rattle.rules.proofs.Fits.{Possible}
+use Rattle.rules.proofs.Fits.{Possible, possible}
 use Rattle.rules.proofs.Months.{mm-is, before-in-year, mm-before}
 
 told : {a b : ℤ} → T (eqZ a b) → a ≡ b
@@ -75,6 +76,14 @@ cycle-within m p = go (monthOfYear m) (p .mm)
     go (pos zero) w = absurd (omega (za, w .above))
     go (pos (suc k)) w = outside-false _ _ _ (not-true _ (is-true _ (below-at within 12 twelve k (omega (za, w .below)))))
 
+-- ---- twelfths fall due in order
+pub twelfths : {last m : ℤ} → MonthAfter last m → Twelfths (settledTo last m) (cycleMonth m)
+unfolding settledTo
+twelfths {last} {m} h =
+    let w = cycle-within m (possible m (h .there)) in
+    let d = sub# (cycleMonth m) (pos 1) in
+    record { from = omega (za, one# (cycleMonth m)); order = omega za; upto = w .below }
+
 -- ---- from July to June
 -- yyyymm of a year and a month
 abbrev pub yyyymm : ℕ → ℕ → ℤ
@@ -123,20 +132,21 @@ cycle-months y low high k h = go (ltb k 6) refl
     go false e = let l = ltb-false k 6 e in january-on (y + 1) (omega arith) (omega arith) (k - 6) (omega arith) ∙ ap pos (omega arith)
 
 -- ---- VMPA of the first n cycle months: what is due by then
-pub VMPA-by : (a : Agent) (n : ℕ) → Σ< n (λ k. VMPA (pos (suc k)) a) ≡ floor (a .pa *ℤ pos n) (pos 12)
+pub VMPA-by : (a : Agent) (n : ℕ) → Σ< n (λ k. VMPA (pos k) (pos (suc k)) a) ≡ floor (a .pa *ℤ pos n) (pos 12)
 unfolding Σ< VMPA
 VMPA-by a zero = sym (floor-none (a .pa) (pos 12) (omega za))
-VMPA-by a (suc n) = rw (VMPA-by a n, one-less n) (gap (floor (a .pa *ℤ pos n) (pos 12)) (floor (a .pa *ℤ pos (suc n)) (pos 12)))
+VMPA-by a (suc n) = rw (VMPA-by a n) (gap (floor (a .pa *ℤ pos n) (pos 12)) (floor (a .pa *ℤ pos (suc n)) (pos 12)))
   where
     gap : (x y : ℤ) → x +ℤ (y -ℤ x) ≡ y
     gap x y = omega (za, sub# y x, add# x (y -ℤ x))
 
 -- the twelve total pa, and so do those of the months from July to June
-pub VMPA-total : (a : Agent) → Σ< 12 (λ k. VMPA (pos (suc k)) a) ≡ a .pa
+pub VMPA-total : (a : Agent) → Σ< 12 (λ k. VMPA (pos k) (pos (suc k)) a) ≡ a .pa
 VMPA-total a = VMPA-by a 12 ∙ floor-whole (a .pa) (pos 12) (omega za)
 
-pub VMPA-year : (y : ℕ) → 2000 ≤ y → y < 2099 → (a : Agent) → Σ< 12 (λ k. VMPA (cycleMonth (cycleFrom y k)) a) ≡ a .pa
+pub VMPA-year : (y : ℕ) → 2000 ≤ y → y < 2099 → (a : Agent) → Σ< 12 (λ k. VMPA (settledTo (pos 0) (cycleFrom y k)) (cycleMonth (cycleFrom y k)) a) ≡ a .pa
+unfolding settledTo
 VMPA-year y low high a =
-    Σ-ext 12 (λ k. VMPA (cycleMonth (cycleFrom y k)) a) (λ k. VMPA (pos (suc k)) a)
-    (λ k h. ap (λ (c : ℤ). VMPA c a) (cycle-months y low high k h))
+    Σ-ext 12 (λ k. VMPA (settledTo (pos 0) (cycleFrom y k)) (cycleMonth (cycleFrom y k)) a) (λ k. VMPA (pos k) (pos (suc k)) a)
+    (λ k h. rw (cycle-months y low high k h, one-less k))
     ∙ VMPA-total a

@@ -3,24 +3,26 @@
 use Prim.Native.Nat.{ℕ, suc, _≤_, _<_}
 use native.Mathlib.Omega.{arith}
 use mathlib.Core.Path.{_≡_, sym, _∙_}
+use mathlib.Core.Logic.{_≢_}
 use mathlib.Core.List.{[]}
 use lib.ListN.{length, getD}
-use lib.IntN.{pos}
+use lib.IntN.{ℤ, pos}
+use lib.Signed.{_<ℤ_}
 use Rattle.ints.specs.Range.{Within}
 use Rattle.rules.specs.Most.{mostHeld}
 use Rattle.rules.specs.Lines.{Lines, agentOf, userOf, pointOf}
 use Rattle.rules.specs.State.{State}
 use Rattle.rules.specs.Tested.{Tested}
-use Rattle.rules.specs.Ranges.{Amount}
+use Rattle.rules.specs.Ranges.{Amount, MonthAfter}
 use Rattle.rules.specs.Limits.{AgentFits, UserFits, PointFits}
-use Rattle.rules.proofs.Fits.{Possible}
+use Rattle.rules.proofs.Fits.{Possible, not-impossible}
 use Rattle.rules.proofs.Passed.{Passed, counts, state-passed, lines-passed}
 
 pub record Ranged (s : State) (l : Lines) : Type 0 where
   pub few-users : length (l .users) ≤ 512
   pub few-agents : length (l .agents) ≤ 256
   pub few-points : length (l .points) ≤ 1024
-  pub month : Possible (l .line .month)
+  pub months : MonthAfter (s .month) (l .line .month)
   -- one held credit per user
   pub count : length (s .credits) ≡ length (l .users)
   pub held : (j : ℕ) → j < length (s .credits) → Within (pos 0) (pos mostHeld) (getD (s .credits) j (pos 0))
@@ -28,6 +30,9 @@ pub record Ranged (s : State) (l : Lines) : Type 0 where
   pub agent : (i : ℕ) → i < length (l .agents) → AgentFits (suc i) (getD (l .agents) i (agentOf []))
   pub user : (j : ℕ) → j < length (l .users) → UserFits (suc j) (getD (l .users) j (userOf []))
   pub point : (m : ℕ) → m < length (l .points) → PointFits (getD (l .points) m (pointOf []))
+
+months : {last month : ℤ} → (last ≢ pos 0 → Possible last) → Possible month → last <ℤ month → MonthAfter last month
+months h p l = record { there = not-impossible p; last-there = λ z. not-impossible (h z); later = l }
 
 -- from the tests
 pub ranged : {s : State} {l : Lines} → Tested s l → Ranged s l
@@ -39,7 +44,7 @@ ranged {s} {l} t =
       few-users = first .users-between .1;
       few-agents = first .agents-between .1;
       few-points = first .few-points;
-      month = state .month;
+      months = months (first .last-month) (state .month) (state .later);
       count = t .held;
       held = state .credits;
       ons = lines .ons;
@@ -54,7 +59,7 @@ ranged-passed s l w p = record {
   few-users = omega (arith, p .users, p .few-users);
   few-agents = omega (arith, p .agents, p .few-agents);
   few-points = p .few-points;
-  month = p .month;
+  months = months (p .last-month) (p .month) (p .later);
   count = w ∙ sym (p .users);
   held = p .credits;
   ons = p .ons;

@@ -9,7 +9,6 @@ use Rattle.ints.specs.Ring.{all4, diff, add-swap}
 use Rattle.ints.specs.Sums.{sumℤ}
 use Rattle.share.specs.Joined.{joined, leftOut, sum-joined, share-joined, share-left-out}
 use Rattle.rules.specs.Lists.{sideBySide, length-sideBySide}
-use Rattle.rules.specs.Calendar.{cycleMonth}
 use Rattle.rules.specs.Lines.{Agent, Lines}
 use Rattle.rules.specs.State.{State}
 use Rattle.rules.specs.Charges.{EUSTs, overrunSums, VMEs, pvTotal, pvs, CPVs, ns, VDs, newCredits}
@@ -42,18 +41,18 @@ module _ (s : State) (l : Lines) (k : ℕ) where
 sub-swap : (a b c d : ℤ) → a +ℤ b -ℤ (c +ℤ d) ≡ a -ℤ c +ℤ (b -ℤ d)
 sub-swap = all4 _ (λ a b c d e f g h. simp diff (omega arith))
 
-module _ (month : ℤ) (a b c : Agent) where
+module _ (from to : ℤ) (a b c : Agent) where
   pub own-added :
       c .pb ≡ a .pb +ℤ b .pb
       → c .pv ≡ a .pv +ℤ b .pv
       → c .afs ≡ a .afs +ℤ b .afs
       → c .rfs ≡ a .rfs +ℤ b .rfs
       → c .ret ≡ a .ret +ℤ b .ret
-      → VMPA (cycleMonth month) c ≡ VMPA (cycleMonth month) a +ℤ VMPA (cycleMonth month) b
-      → ownCredit month c ≡ ownCredit month a +ℤ ownCredit month b
+      → VMPA from to c ≡ VMPA from to a +ℤ VMPA from to b
+      → ownCredit from to c ≡ ownCredit from to a +ℤ ownCredit from to b
   unfolding ownCredit VMST
   own-added pb pv afs rfs ret adjusted =
-      let twelfth : Agent → ℤ = VMPA (cycleMonth month) in
+      let twelfth : Agent → ℤ = VMPA from to in
       rw (
         adjusted,
         pb,
@@ -86,7 +85,7 @@ joined-append zero (x ∷ []) ys h = absurd (omega arith)
 joined-append zero (x ∷ v ∷ xs) ys h = refl
 joined-append (suc k) (x ∷ xs) ys h = ap (λ (l : List ℤ). x ∷ l) (joined-append k xs ys (omega arith))
 
-module _ (k : ℕ) (s : State) (l : Lines) (t : State) (m : Lines) (h : AgentsAsOne k l m) (c : t .credits ≡ s .credits) where
+module _ (k : ℕ) (s : State) (l : Lines) (t : State) (m : Lines) (h : AgentsAsOne k s l t m) (c : t .credits ≡ s .credits) where
   same-pv : pvTotal m ≡ pvTotal l
   unfolding pvTotal
   same-pv = ap sumℤ (h .pv) ∙ sum-joined k (pvs (l .agents)) (omega (arith, length-map (l .agents) (λ (a : Agent). a .pv), h .pair))
@@ -105,7 +104,7 @@ module _ (k : ℕ) (s : State) (l : Lines) (t : State) (m : Lines) (h : AgentsAs
 
   same-SMSE : SMSE t m ≡ SMSE s l
   unfolding SMSEFrom
-  same-SMSE = rw (same-VD, h .own, sum-joined k (ownCredits (l .line) (l .agents)) (omega (arith, length-ownCredits l, h .pair)), h .line)
+  same-SMSE = rw (same-VD, h .own, sum-joined k (ownCredits s l) (omega (arith, length-ownCredits s l, h .pair)), h .line)
 
   VMANT-as-one : VMANTs t m ≡ joined k (VMANTs s l)
   VMANT-as-one = VMANT-joined s l k t m same-SMSE (h .pair) (h .pb)
@@ -113,10 +112,10 @@ module _ (k : ℕ) (s : State) (l : Lines) (t : State) (m : Lines) (h : AgentsAs
   VC-as-one : VCs t m ≡ joined k (VCs s l)
   unfolding VCsFrom agentVCsFrom
   VC-as-one =
-      let own = ownCredits (l .line) (l .agents) in
-      let e = length-ownCredits l ∙ sym (length-VMANTs s l) in
+      let own = ownCredits s l in
+      let e = length-ownCredits s l ∙ sym (length-VMANTs s l) in
       let n = length-sideBySide _+ℤ_ own (VMANTs s l) e in
-      let here : suc k < length own = omega (arith, length-ownCredits l, h .pair) in
+      let here : suc k < length own = omega (arith, length-ownCredits s l, h .pair) in
       rw (
         h .own,
         VMANT-as-one,

@@ -13,12 +13,12 @@ use Rattle.share.specs.Running.{part, partsFrom, runningShare}
 use Rattle.share.specs.Joined.{joined, leftOut}
 use Rattle.rules.specs.Verdict.{accepted, eachLine}
 use Rattle.rules.specs.Lists.{eachFrom, sideBySide}
-use Rattle.rules.specs.Calendar.{monthOfYear, impossibleMonth, cycleMonth}
+use Rattle.rules.specs.Calendar.{monthOfYear, impossibleMonth, cycleMonth, settledTo}
 use Rattle.rules.specs.Lines.{Lines, monthLines, kindOf, badAgent, badUser, badPoint, unfitPoint}
 use Rattle.rules.specs.July.{julyLine, julyAgents, julyUsers, lines, points}
 use Rattle.rules.specs.State.{State}
 use Rattle.rules.specs.Charges.{halfUp, orZero, useCharge, allowance, excess, overrun, ofUser, EUSTs, overrunSums, VMEs, pvTotal, CPVs, ns, VDs}
-use Rattle.rules.specs.Credits.{VMPA, VMST, ownCredit, ownCredits, SMSEFrom, SMSE, VMANTsFrom, VMANTs, agentVCsFrom, VCsFrom, VCs}
+use Rattle.rules.specs.Credits.{VMPA, VMST, ownCredit, ownCreditsFrom, SMSEFrom, SMSE, VMANTsFrom, VMANTs, agentVCsFrom, VCsFrom, VCs}
 use Rattle.rules.specs.Refusals.{badCounts, badMonth, countTests, stateTests, linesBeforePoints, lineTests, sumTests, refusal}
 use Rattle.rules.specs.Sisters.{AgentsReceive, UsersGet}
 use Rattle.rules.proofs.SisterAgents.{VMANT-left-out, VMANT-joined, agents-as-one}
@@ -65,7 +65,7 @@ abbrev usersOne : Lines
 usersOne = monthLines julyLine (lines agentsApart) (lines julyUsers) (points (pointsUnder 2))
 
 pub agents-one : AgentsReceive 1 (new apart) apart (new agentsOne) agentsOne
-unfolding joined ownCredits ownCredit VMST VMPA cycleMonth monthOfYear floor
+unfolding joined ownCreditsFrom ownCredit VMST VMPA settledTo cycleMonth monthOfYear floor
 agents-one =
     agents-as-one 1 (new apart) apart (new agentsOne) agentsOne
     (record { pair = omega arith; pb = refl; pv = refl; own = refl; line = refl; users = refl; points = refl })
@@ -126,11 +126,11 @@ abbrev userOut : Lines
 userOut = december fourAgents threeUsers (power 1 7 ∷ power 2 13 ∷ power 3 22 ∷ [])
 
 pub agents-joined : VMANTs (new agentsJoined) agentsJoined ≡ joined 0 (VMANTs (new four) four)
-unfolding joined SMSEFrom ownCredits ownCredit VMST VMPA cycleMonth monthOfYear floor sumℤ VDs ns VMEs CPVs EUSTs overrunSums pvTotal
+unfolding joined SMSEFrom ownCreditsFrom ownCredit VMST VMPA settledTo cycleMonth monthOfYear floor sumℤ VDs ns VMEs CPVs EUSTs overrunSums pvTotal
 agents-joined = VMANT-joined (new four) four 0 (new agentsJoined) agentsJoined refl (omega arith) refl
 
 pub agent-out : VMANTs (new agentOut) agentOut ≡ leftOut 2 (VMANTs (new four) four)
-unfolding leftOut SMSEFrom ownCredits ownCredit VMST VMPA cycleMonth monthOfYear floor sumℤ VDs ns VMEs CPVs EUSTs overrunSums pvTotal
+unfolding leftOut SMSEFrom ownCreditsFrom ownCredit VMST VMPA settledTo cycleMonth monthOfYear floor sumℤ VDs ns VMEs CPVs EUSTs overrunSums pvTotal
 agent-out = VMANT-left-out (new four) four 2 (new agentOut) agentOut refl (omega arith) refl refl
 
 pub users-joined : CPVs usersJoined ≡ joined 0 (CPVs four)
@@ -201,6 +201,6 @@ amounts =
     ∷ []
 
 pub worked : map (λ (c : Amounts). c .0) amounts ≡ map (λ (c : Amounts). c .1) amounts
-unfolding amounts VCsFrom agentVCsFrom VMANTsFrom SMSEFrom ownCredits ownCredit VMST VMPA cycleMonth monthOfYear floor eachFrom sideBySide sumℤ halfUp orZero
-    useCharge allowance excess overrun ofUser EUSTs overrunSums VMEs pvTotal CPVs ns VDs part partsFrom runningShare
+unfolding amounts VCsFrom agentVCsFrom VMANTsFrom SMSEFrom ownCreditsFrom ownCredit VMST VMPA settledTo cycleMonth monthOfYear floor eachFrom sideBySide sumℤ
+    halfUp orZero useCharge allowance excess overrun ofUser EUSTs overrunSums VMEs pvTotal CPVs ns VDs part partsFrom runningShare
 worked = refl

@@ -15,12 +15,12 @@ use Rattle.rules.specs.declared.Ledger.{Ledger}
 use Rattle.rules.specs.declared.Answer.the-variants.{Accepted, Refused}
 use Rattle.rules.specs.Verdict.{accepted, refused, eachLine}
 use Rattle.rules.specs.Lists.{eachFrom, sideBySide}
-use Rattle.rules.specs.Calendar.{monthOfYear, impossibleMonth, cycleMonth}
+use Rattle.rules.specs.Calendar.{monthOfYear, impossibleMonth, cycleMonth, settledTo}
 use Rattle.rules.specs.Lines.{Lines, monthLines, kindOf, badAgent, badUser, badPoint, unfitPoint}
 use Rattle.rules.specs.July.{julyLine, julyAgents, julyPoints, lines, points, july}
 use Rattle.rules.specs.Charges.{halfUp, orZero, useCharge, allowance, excess, overrun, ofUser, EUSTs}
 use Rattle.rules.specs.Charges.{overrunSums, VMEs, pvTotal, CPVs, ns, VDs, newCredits}
-use Rattle.rules.specs.Credits.{VMPA, VMST, ownCredit, ownCredits, SMSEFrom, VMANTsFrom, agentVCsFrom, VCsFrom, VCs}
+use Rattle.rules.specs.Credits.{VMPA, VMST, ownCredit, ownCreditsFrom, SMSEFrom, VMANTsFrom, agentVCsFrom, VCsFrom, VCs}
 use Rattle.rules.specs.Table.{Cell, rounded-down, cellAt, Table}
 use Rattle.rules.specs.Refusals.{badCounts, shortSlices, badMonth, countTests, stateTests, linesBeforePoints}
 use Rattle.rules.specs.Refusals.{lineTests, sumTests, refusal, openingRefusal}
@@ -113,7 +113,7 @@ again = refl
 
 -- ---- credits and debits of the accepted ones, and a table of them: here every exact value is whole
 VCs₁ : pos 635 ∷ pos 1235 ∷ pos 100 ∷ [] ≡ VCs (stateOf new held₁) july
-unfolding VCsFrom agentVCsFrom VMANTsFrom SMSEFrom ownCredits ownCredit VMST VMPA cycleMonth monthOfYear floor eachFrom sideBySide sumℤ halfUp orZero useCharge
+unfolding VCsFrom agentVCsFrom VMANTsFrom SMSEFrom ownCreditsFrom ownCredit VMST VMPA settledTo cycleMonth monthOfYear floor eachFrom sideBySide sumℤ halfUp orZero useCharge
     allowance excess overrun ofUser EUSTs overrunSums VMEs pvTotal CPVs ns VDs part partsFrom runningShare
 VCs₁ = refl
 
@@ -128,7 +128,7 @@ unfolding floor eachFrom sideBySide sumℤ halfUp orZero useCharge allowance exc
 new₁ = refl
 
 VCs₂ : pos 504 ∷ pos 972 ∷ pos 100 ∷ [] ≡ VCs (stateOf (ledger (pos 202407)) held₂) august
-unfolding VCsFrom agentVCsFrom VMANTsFrom SMSEFrom ownCredits ownCredit VMST VMPA cycleMonth monthOfYear floor eachFrom sideBySide sumℤ halfUp orZero useCharge
+unfolding VCsFrom agentVCsFrom VMANTsFrom SMSEFrom ownCreditsFrom ownCredit VMST VMPA settledTo cycleMonth monthOfYear floor eachFrom sideBySide sumℤ halfUp orZero useCharge
     allowance excess overrun ofUser EUSTs overrunSums VMEs pvTotal CPVs ns VDs part partsFrom runningShare
 VCs₂ = refl
 

@@ -42,3 +42,7 @@ inCycle mm =
 -- cycle month of yyyymm
 unfoldable pub cycleMonth : ℤ → ℤ
 cycleMonth m = inCycle (monthOfYear m)
+
+-- the cycle month that yearly adjustments are settled to when the month m closes, last being the last closed month (0 for none)
+unfoldable pub settledTo : ℤ → ℤ → ℤ
+settledTo last m = cycleMonth m -ℤ pos 1

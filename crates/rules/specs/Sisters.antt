@@ -16,11 +16,11 @@ use Rattle.rules.specs.Credits.{ownCredits, pbs, SMSE, VMANTs, VCs}
 
 -- ---- agents: pb and pv are added, and so is what they receive before the balance is shared; every other agent's, and month line, users and
 -- points, are the same
-pub record AgentsAsOne (k : ℕ) (l m : Lines) : Type 0 where
+pub record AgentsAsOne (k : ℕ) (s : State) (l : Lines) (t : State) (m : Lines) : Type 0 where
   pub pair : suc k < length (l .agents)
   pub pb : pbs (m .agents) ≡ joined k (pbs (l .agents))
   pub pv : pvs (m .agents) ≡ joined k (pvs (l .agents))
-  pub own : ownCredits (m .line) (m .agents) ≡ joined k (ownCredits (l .line) (l .agents))
+  pub own : ownCredits t m ≡ joined k (ownCredits s l)
   pub line : m .line ≡ l .line
   pub users : m .users ≡ l .users
   pub points : m .points ≡ l .points

@@ -8,7 +8,7 @@ use lib.Seq.{ext-getD}
 use Rattle.ints.specs.Sums.{sumℤ}
 use Rattle.rules.specs.Lists.{eachFrom, length-eachFrom, length-sideBySide, getD-map}
 use Rattle.rules.specs.declared.Point.{Point}
-use Rattle.rules.specs.Calendar.{cycleMonth}
+use Rattle.rules.specs.Calendar.{cycleMonth, settledTo}
 use Rattle.rules.specs.Lines.{Agent, User, Lines, agentOf, userOf, kindOf}
 use Rattle.rules.specs.State.{State}
 use Rattle.rules.specs.Charges.{useCharge, overrun, EUSTs, overrunSums, rets, VMEs, CPVs, ns, VDs, newCredits}
@@ -88,10 +88,10 @@ module _ (s : State) (l : Lines) where
 
   -- ---- by payee
   abbrev vc : List ℤ
-  vc = agentVCsFrom (sumℤ (VDs s l)) (l .line) (l .agents)
+  vc = agentVCsFrom (sumℤ (VDs s l)) (s .month) (l .line) (l .agents)
 
   abbrev agentRows : List (List ℤ)
-  agentRows = agentRowsOf (l .line .month) (VMANTs s l) vc (l .agents)
+  agentRows = agentRowsOf (s .month) (l .line .month) (VMANTs s l) vc (l .agents)
 
   -- that of the agents, and ONS's entry
   payee-column : (k : ℕ) (col : List ℤ) → column k agentRows ≡ col → column k (payeeRows s l) ≡ col ++ at (onsRow (l .line .ons)) k ∷ []
@@ -104,9 +104,9 @@ module _ (s : State) (l : Lines) where
   unfolding agentRowsOf
   VMST-column = payee-column 0 (map VMST (l .agents)) (by-line _ VMST 0 0 (l .agents) (λ i a. refl))
 
-  pub VMPA-column : column 1 (payeeRows s l) ≡ ofAgents (VMPA (cycleMonth (l .line .month))) (l .agents)
+  pub VMPA-column : column 1 (payeeRows s l) ≡ ofAgents (VMPA (settledTo (s .month) (l .line .month)) (cycleMonth (l .line .month))) (l .agents)
   unfolding agentRowsOf
-  VMPA-column = payee-column 1 _ (by-line _ (VMPA (cycleMonth (l .line .month))) 1 0 (l .agents) (λ i a. refl))
+  VMPA-column = payee-column 1 _ (by-line _ (VMPA (settledTo (s .month) (l .line .month)) (cycleMonth (l .line .month))) 1 0 (l .agents) (λ i a. refl))
 
   pub VMANT-column : column 2 (payeeRows s l) ≡ VMANTs s l ++ pos 0 ∷ []
   unfolding agentRowsOf
@@ -119,7 +119,7 @@ module _ (s : State) (l : Lines) where
   length-agentVCs : length vc ≡ length (l .agents)
   unfolding agentVCsFrom
   length-agentVCs =
-      length-sideBySide _+ℤ_ (ownCredits (l .line) (l .agents)) (VMANTs s l) (length-ownCredits l ∙ sym (length-VMANTs s l)) ∙ length-ownCredits l
+      length-sideBySide _+ℤ_ (ownCredits s l) (VMANTs s l) (length-ownCredits s l ∙ sym (length-VMANTs s l)) ∙ length-ownCredits s l
 
   pub VC-column : column 4 (payeeRows s l) ≡ VCs s l
   unfolding VCsFrom agentRowsOf

@@ -6,12 +6,12 @@ use Rattle.ints.specs.Floor.{floor}
 use Rattle.ints.specs.Sums.{sumℤ}
 use Rattle.share.specs.Running.{part, partsFrom, runningShare}
 use Rattle.rules.specs.Lists.{eachFrom, sideBySide}
-use Rattle.rules.specs.Calendar.{monthOfYear, cycleMonth}
+use Rattle.rules.specs.Calendar.{monthOfYear, cycleMonth, settledTo}
 use Rattle.rules.specs.Lines.{kindOf}
 use Rattle.rules.specs.State.{State}
 use Rattle.rules.specs.July.{july}
 use Rattle.rules.specs.Charges.{halfUp, orZero, useCharge, allowance, excess, overrun, ofUser, EUSTs, overrunSums, VMEs, pvTotal, CPVs, ns, VDs, newCredits}
-use Rattle.rules.specs.Credits.{VMPA, VMST, ownCredit, ownCredits, SMSEFrom, VMANTsFrom, agentVCsFrom}
+use Rattle.rules.specs.Credits.{VMPA, VMST, ownCredit, ownCreditsFrom, SMSEFrom, VMANTsFrom, agentVCsFrom}
 use Rattle.statement.specs.Statement.{pointRows, userRowsOf, userRows, agentRowsOf, payeeRowsFrom, payeeRows}
 
 -- a ledger of its counts on which no month is closed, with the credits that its two users hold
@@ -48,6 +48,6 @@ pub payees-of-a :
     ∷ (pos 0 ∷ pos 0 ∷ pos 0 ∷ pos 0 ∷ pos 100 ∷ [])
     ∷ []
 unfolding payeeRowsFrom agentRowsOf floor sumℤ eachFrom sideBySide halfUp orZero useCharge allowance excess overrun ofUser EUSTs overrunSums VMEs
-    pvTotal CPVs ns VDs newCredits runningShare partsFrom part monthOfYear cycleMonth
-    VMPA VMST ownCredit ownCredits SMSEFrom VMANTsFrom agentVCsFrom
+    pvTotal CPVs ns VDs newCredits runningShare partsFrom part monthOfYear cycleMonth settledTo
+    VMPA VMST ownCredit ownCreditsFrom SMSEFrom VMANTsFrom agentVCsFrom
 payees-of-a = refl

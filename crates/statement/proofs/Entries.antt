@@ -5,7 +5,7 @@ use mathlib.Core.Path.{_≡_, sym, ap, _∙_}
 use mathlib.Core.List.{List, [], _∷_, map}
 use lib.IntN.{ℤ, pos, _-ℤ_}
 use lib.ListN.{length, getD, length-map}
-use Rattle.rules.specs.Calendar.{cycleMonth}
+use Rattle.rules.specs.Calendar.{cycleMonth, settledTo}
 use Rattle.rules.specs.Lists.{eachFrom, sideBySide, length-eachFrom, getD-eachFrom, length-sideBySide, getD-sideBySide, getD-map}
 use Rattle.rules.specs.Lines.{agentOf, userOf}
 use Rattle.rules.specs.Charges.{nsFrom}
@@ -43,16 +43,18 @@ module _ {users : List (List ℤ)} {uses over vme cpv held vd new : List ℤ} {o
       ∙ rw (getD-map userOf users i [] (userOf []) h, net-at)
 
 -- ---- of the agents
-pub length-agentRows : (month : ℤ) (vmant vc : List ℤ) (agents : List (List ℤ)) → length (agentRowsOf month vmant vc (map agentOf agents)) ≡ length agents
+pub length-agentRows : (last month : ℤ) (vmant vc : List ℤ) (agents : List (List ℤ))
+    → length (agentRowsOf last month vmant vc (map agentOf agents)) ≡ length agents
 unfolding agentRowsOf
-length-agentRows month vmant vc agents = length-eachFrom 0 _ (map agentOf agents) ∙ length-map agents agentOf
+length-agentRows last month vmant vc agents = length-eachFrom 0 _ (map agentOf agents) ∙ length-map agents agentOf
 
-abbrev pub agentRow : ℤ → (vmant vc : List ℤ) → List ℤ → ℕ → List ℤ
-agentRow month vmant vc line i = VMST (agentOf line) ∷ VMPA (cycleMonth month) (agentOf line) ∷ at vmant i ∷ at line 6 ∷ at vc i ∷ []
+abbrev pub agentRow : ℤ → ℤ → (vmant vc : List ℤ) → List ℤ → ℕ → List ℤ
+agentRow last month vmant vc line i =
+    VMST (agentOf line) ∷ VMPA (settledTo last month) (cycleMonth month) (agentOf line) ∷ at vmant i ∷ at line 6 ∷ at vc i ∷ []
 
-pub agent-row-at : (month : ℤ) (vmant vc : List ℤ) (agents : List (List ℤ)) (i : ℕ) → i < length agents
-    → getD (agentRowsOf month vmant vc (map agentOf agents)) i [] ≡ agentRow month vmant vc (getD agents i []) i
+pub agent-row-at : (last month : ℤ) (vmant vc : List ℤ) (agents : List (List ℤ)) (i : ℕ) → i < length agents
+    → getD (agentRowsOf last month vmant vc (map agentOf agents)) i [] ≡ agentRow last month vmant vc (getD agents i []) i
 unfolding agentRowsOf
-agent-row-at month vmant vc agents i h =
+agent-row-at last month vmant vc agents i h =
     each-at _ (map agentOf agents) i (agentOf []) [] (rw length-map h)
     ∙ rw (getD-map agentOf agents i [] (agentOf []) h)

@@ -39,9 +39,9 @@ beyond : (n : ℕ) (rows lent left : List (List ℤ)) → length rows ≡ n → 
 beyond n rows lent left e h w =
     record { same = ap (drop n) w ∙ drop-at rows (drop n lent) n e; same-length = ap length w ∙ same-length n rows lent e h }
 
-agent-count : (month : ℤ) (vmant vc : List ℤ) (agents : List Agent) → length (agentRowsOf month vmant vc agents) ≡ length agents
+agent-count : (last month : ℤ) (vmant vc : List ℤ) (agents : List Agent) → length (agentRowsOf last month vmant vc agents) ≡ length agents
 unfolding agentRowsOf
-agent-count month vmant vc agents = length-eachFrom 0 _ agents
+agent-count last month vmant vc agents = length-eachFrom 0 _ agents
 
 module _ (c : StateCall) where
   abbrev pub Promised : Type 0
@@ -67,9 +67,9 @@ module _ (c : StateCall) where
   pub payee-count : length (payeeRows s (c .lines)) ≡ length (c .lines .agents) + 1
   unfolding payeeRowsFrom
   payee-count =
-      let vc = agentVCsFrom (sumℤ (VDs s (c .lines))) (c .lines .line) (c .lines .agents) in
-      let rows = agentRowsOf (c .lines .line .month) (VMANTs s (c .lines)) vc (c .lines .agents) in
-      length-append rows (onsRow (c .lines .line .ons) ∷ []) ∙ ap (λ (n : ℕ). n + 1) (agent-count _ _ _ (c .lines .agents))
+      let vc = agentVCsFrom (sumℤ (VDs s (c .lines))) (s .month) (c .lines .line) (c .lines .agents) in
+      let rows = agentRowsOf (s .month) (c .lines .line .month) (VMANTs s (c .lines)) vc (c .lines .agents) in
+      length-append rows (onsRow (c .lines .line .ons) ∷ []) ∙ ap (λ (n : ℕ). n + 1) (agent-count _ _ _ _ (c .lines .agents))
 
   rooms : Agrees (rowRooms s n (length (c .lines .points))) short
   rooms = rooms-agree s n (length (c .lines .points))

@@ -115,11 +115,12 @@ module _ {g : Ledger} {held : List ℤ} {line : MonthLine} {agents users xs ys z
     all-there = f .firsts .are ∙ take-all 1024 points (p .few-points)
 
     pub may-write :
-        Statable line agents users (take (length users) held) ls s (r .bills)
+        Statable g line agents users (take (length users) held) ls s (r .bills)
         (take count xs) (take (length users) ys) (take (length agents + 1) zs) (stateOf g held) short
     may-write = record {
       accepts = rw all-there passes;
       one-each = length-take-le (g .users) held (room .held);
+      last-is = refl;
       held-are = ap (λ (k : ℕ). take k held) user-count;
       sums = f .sums;
       billed = rw all-there (rw (length-map users userOf) at (f .judged .bills passes));

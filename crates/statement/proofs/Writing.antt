@@ -8,6 +8,7 @@ use lib.ListN.{length, getD, length-map}
 use lib.Signed.{ltZ}
 use Rattle.ints.specs.Range.{eqZ}
 use Rattle.ints.specs.Sums.{sumℤ}
+use Rattle.rules.specs.declared.Ledger.{Ledger}
 use Rattle.rules.specs.declared.MonthLine.{MonthLine}
 use Rattle.rules.specs.Verdict.{Verdict}
 use Rattle.rules.specs.Lists.{getD-map}
@@ -27,9 +28,9 @@ use Rattle.credits.specs.Payable.{Payable}
 use Rattle.credits.proofs.Tested.{payable-passed}
 use Rattle.statement.specs.Writes.{InRange, linesOf, Statable}
 
-module _ {line : MonthLine} {agents users : List (List ℤ)} {held : List ℤ} {points : List (List ℤ)}
+module _ {ledger : Ledger} {line : MonthLine} {agents users : List (List ℤ)} {held : List ℤ} {points : List (List ℤ)}
     {s : Sums} {bills : Bills} {xs ys zs : List (List ℤ)} {st : State} {short : Verdict}
-    (w : Statable line agents users held points s bills xs ys zs st short) where
+    (w : Statable ledger line agents users held points s bills xs ys zs st short) where
   abbrev l : Lines
   l = linesOf line agents users points
 
@@ -55,5 +56,5 @@ module _ {line : MonthLine} {agents users : List (List ℤ)} {held : List ℤ} {
   pub month : Month users (firstUses users s) (firstOverruns users s) (sumℤ (pvs (map agentOf agents))) held st l
   month = rw (w .sums) (ready st line agents users (map pointOf points) tests (w .held-are) nine)
 
-  pub payable : Payable (bills .total) line (map agentOf agents)
-  payable = rw (w .billed .total) (payable-passed st l (w .one-each) (passed st short l (w .accepts)))
+  pub payable : Payable (bills .total) (ledger .month) line (map agentOf agents)
+  payable = rw (w .last-is, w .billed .total) (payable-passed st l (w .one-each) (passed st short l (w .accepts)))

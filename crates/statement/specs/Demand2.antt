@@ -6,7 +6,7 @@ use mathlib.Core.List.{List, [], _∷_, _++_, map}
 use lib.IntN.{ℤ, pos}
 use lib.ListN.{length, take}
 use Rattle.rules.specs.declared.Point.{Point}
-use Rattle.rules.specs.Calendar.{cycleMonth}
+use Rattle.rules.specs.Calendar.{cycleMonth, settledTo}
 use Rattle.rules.specs.Lines.{Agent, kindOf}
 use Rattle.rules.specs.State.{State}
 use Rattle.rules.specs.Charges.{useCharge, overrun, EUSTs, overrunSums, rets, VMEs, CPVs, ns, VDs, newCredits}
@@ -40,7 +40,9 @@ pub record Demand2Stating (c : StateCall) (s : State) : Type 0 where
   pub held-after : column 8 (take (length (c .lines .users)) (c .usersLeft)) ≡ newCredits s (c .lines)
   -- by payee, ONS last
   pub VMST-is : column 0 (take (length (c .lines .agents) + 1) (c .payeesLeft)) ≡ ofAgents VMST (c .lines .agents)
-  pub VMPA-is : column 1 (take (length (c .lines .agents) + 1) (c .payeesLeft)) ≡ ofAgents (VMPA (cycleMonth (c .lines .line .month))) (c .lines .agents)
+  pub VMPA-is :
+      let month = c .lines .line .month in
+      column 1 (take (length (c .lines .agents) + 1) (c .payeesLeft)) ≡ ofAgents (VMPA (settledTo (s .month) month) (cycleMonth month)) (c .lines .agents)
   pub VMANT : column 2 (take (length (c .lines .agents) + 1) (c .payeesLeft)) ≡ VMANTs s (c .lines) ++ pos 0 ∷ []
   pub payee-ret : column 3 (take (length (c .lines .agents) + 1) (c .payeesLeft)) ≡ ofAgents (λ a. a .ret) (c .lines .agents)
   pub VC : column 4 (take (length (c .lines .agents) + 1) (c .payeesLeft)) ≡ VCs s (c .lines)

@@ -13,7 +13,7 @@ use Rattle.rules.specs.declared.MonthLine.{MonthLine}
 use Rattle.rules.specs.declared.Point.{Point}
 use Rattle.rules.specs.Verdict.{Verdict, when, _then_, ByVerdict}
 use Rattle.rules.specs.Lists.{eachFrom}
-use Rattle.rules.specs.Calendar.{cycleMonth}
+use Rattle.rules.specs.Calendar.{cycleMonth, settledTo}
 use Rattle.rules.specs.Lines.{Agent, User, Lines, kindOf}
 use Rattle.rules.specs.State.{State}
 use Rattle.rules.specs.Charges.{useCharge, overrun, overrunSums, EUSTs, VMEs, CPVs, ns, VDs, newCredits}
@@ -44,21 +44,21 @@ unfoldable pub userRows : State → Lines → List (List ℤ)
 userRows s l = userRowsOf (EUSTs l) (overrunSums l) (VMEs l) (CPVs l) (s .credits) (ns s l) (VDs s l) (newCredits s l) (l .users)
 
 -- an agent: VMST, VMPA, VMANT, ret, credit VC (6)
-unfoldable pub agentRowsOf : ℤ → (VMANT VC : List ℤ) → List Agent → List (List ℤ)
-agentRowsOf month VMANT VC agents =
-    eachFrom 0 (λ i a. VMST a ∷ VMPA (cycleMonth month) a ∷ at VMANT i ∷ a .ret ∷ at VC i ∷ []) agents
+unfoldable pub agentRowsOf : ℤ → ℤ → (VMANT VC : List ℤ) → List Agent → List (List ℤ)
+agentRowsOf last month VMANT VC agents =
+    eachFrom 0 (λ i a. VMST a ∷ VMPA (settledTo last month) (cycleMonth month) a ∷ at VMANT i ∷ a .ret ∷ at VC i ∷ []) agents
 
 -- ONS: its credit is ons, and nothing else is its own
 abbrev pub onsRow : ℤ → List ℤ
 onsRow ons = pos 0 ∷ pos 0 ∷ pos 0 ∷ pos 0 ∷ ons ∷ []
 
--- the agents in order, and then ONS; from the sum of VD, and of a month on a state
-unfoldable pub payeeRowsFrom : ℤ → MonthLine → List Agent → List (List ℤ)
-payeeRowsFrom debits line agents =
-    agentRowsOf (line .month) (VMANTsFrom debits line agents) (agentVCsFrom debits line agents) agents ++ onsRow (line .ons) ∷ []
+-- the agents in order, and then ONS; from the sum of VD and the last closed month, and of a month on a state
+unfoldable pub payeeRowsFrom : ℤ → ℤ → MonthLine → List Agent → List (List ℤ)
+payeeRowsFrom debits last line agents =
+    agentRowsOf last (line .month) (VMANTsFrom debits last line agents) (agentVCsFrom debits last line agents) agents ++ onsRow (line .ons) ∷ []
 
 abbrev pub payeeRows : State → Lines → List (List ℤ)
-payeeRows s l = payeeRowsFrom (sumℤ (VDs s l)) (l .line) (l .agents)
+payeeRows s l = payeeRowsFrom (sumℤ (VDs s l)) (s .month) (l .line) (l .agents)
 
 -- ---- why it comes back
 -- the lengths of the slices that a statement is lent: held credits, and the rows of points, users and payees

@@ -5,6 +5,7 @@ use mathlib.Core.Bool.{false}
 use mathlib.Core.List.{List, [], map}
 use lib.IntN.{ℤ}
 use lib.ListN.{length, getD}
+use Rattle.rules.specs.declared.Ledger.{Ledger}
 use Rattle.rules.specs.declared.MonthLine.{MonthLine}
 use Rattle.rules.specs.Verdict.{Verdict, accepted}
 use Rattle.rules.specs.Lines.{Lines, userOf, pointOf, badPoint, monthLines}
@@ -27,10 +28,11 @@ linesOf line agents users points = monthLines line agents users (map pointOf poi
 
 -- nothing refuses these lines on the state st, whose credits are held, one for each user; s is what a scan of the points has found, the
 -- bills are theirs, and every slice has one entry for each of its rows
-pub record Statable (line : MonthLine) (agents users : List (List ℤ)) (held : List ℤ) (points : List (List ℤ))
+pub record Statable (ledger : Ledger) (line : MonthLine) (agents users : List (List ℤ)) (held : List ℤ) (points : List (List ℤ))
     (s : Sums) (bills : Bills) (point-rows user-rows payee-rows : List (List ℤ)) (st : State) (short : Verdict) : Type 0 where
   pub accepts : refusal st short (linesOf line agents users points) ≡ accepted
   pub one-each : length (st .credits) ≡ st .users
+  pub last-is : ledger .month ≡ st .month
   pub held-are : held ≡ st .credits
   pub sums : s ≡ scanned (map userOf users) (map pointOf points)
   pub billed : Billed (length users) st (linesOf line agents users points) bills

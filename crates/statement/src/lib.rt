@@ -103,6 +103,7 @@ fn stating_verdict(
 // Writes every row of a month that breaks no limit, and answers its balance. `held` has one entry for each user; every slice of rows
 // is as long as its rows are many.
 fn write(
+    ledger: Ledger,
     line: MonthLine,
     agents: &[AgentLine],
     users: &[UserLine],
@@ -115,9 +116,9 @@ fn write(
     payee_rows: &mut [PayeeRow],
 ) -> i64
     requires { ⌜ ((st : State) × (short : Verdict)
-        × Statable line (now agents) (now users) (now held) (now points) s bills (now «point_rows») (now «user_rows») (now «payee_rows») st short) ⌝ }
+        × Statable ledger line (now agents) (now users) (now held) (now points) s bills (now «point_rows») (now «user_rows») (now «payee_rows») st short) ⌝ }
     ensures { λ r. ⌜ ((st : State) (short : Verdict)
-        → Statable line (now (agents .entry)) (now (users .entry)) (now (held .entry)) (now (points .entry)) s bills
+        → Statable ledger line (now (agents .entry)) (now (users .entry)) (now (held .entry)) (now (points .entry)) s bills
         (now («point_rows» .entry)) (now («user_rows» .entry)) (now («payee_rows» .entry)) st short
         → StatedRows st (linesOf line (now (agents .entry)) (now (users .entry)) (now (points .entry))) r
         (now («point_rows» .exit)) (now («user_rows» .exit)) (now («payee_rows» .exit))) ⌝ }
@@ -125,7 +126,7 @@ fn write(
     points::rows(users, points, point_rows);
     let pv = credits::columns::pv_total(agents);
     users::state_users(users, s, bills, pv, held, user_rows);
-    payees::state_payees(bills.total, line, agents, payee_rows)
+    payees::state_payees(bills.total, ledger.month, line, agents, payee_rows)
 }
 
 // The month whose first 1,024 points are these lines; n counts all of them.
@@ -169,6 +170,7 @@ fn state_first(
             let u = users.len();
             let m = agents.len() + 1;
             let smse = write(
+                ledger,
                 line,
                 agents,
                 users,

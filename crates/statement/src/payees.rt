@@ -1,11 +1,10 @@
-// The rows of the payees, from the agent lines and the total of the users' debits.
+// The rows of the payees, from the agent lines, the last closed month and the total of the users' debits.
 ghost use Prim.Native.Nat.{_+_};
 ghost use mathlib.Core.Path.{_≡_};
-ghost use mathlib.Core.Bool.{false};
 ghost use mathlib.Core.List.{map};
 ghost use lib.ListN.{length};
-ghost use Rattle.rules.specs.Calendar.{impossibleMonth};
 ghost use Rattle.rules.specs.Lines.{agentOf};
+ghost use Rattle.rules.specs.Ranges.{MonthAfter};
 ghost use Rattle.credits.specs.Columns.{AgentLines};
 ghost use Rattle.credits.specs.Payable.{Payable};
 ghost use Rattle.statement.specs.Statement.{agentRowsOf};
@@ -16,21 +15,29 @@ use rules::MonthLine;
 use rules::columns;
 
 // Writes a row for each agent, from its line and the columns.
-fn rows(month: i64, agents: &[AgentLine], vmant: &[i64], vc: &[i64], out: &mut [PayeeRow])
-    requires { ⌜ (impossibleMonth month ≡ false)
+fn rows(
+    last: i64,
+    month: i64,
+    agents: &[AgentLine],
+    vmant: &[i64],
+    vc: &[i64],
+    out: &mut [PayeeRow],
+)
+    requires { ⌜ MonthAfter last month
         × AgentLines (map agentOf (now agents))
         × (length (now vmant) ≡ length (now agents))
         × (length (now vc) ≡ length (now agents))
         × (length (now out) ≡ length (now agents)) ⌝ }
-    ensures { λ _. ⌜ now (out .exit) ≡ agentRowsOf month (now (vmant .entry)) (now (vc .entry)) (map agentOf (now (agents .entry))) ⌝ }
+    ensures { λ _. ⌜ now (out .exit) ≡ agentRowsOf last month (now (vmant .entry)) (now (vc .entry)) (map agentOf (now (agents .entry))) ⌝ }
 {
-    let c = credits::agent::cycle_month(month);
+    let b = credits::cycle::settled_to(last, month);
+    let c = credits::cycle::cycle_month(month);
     let n = agents.len();
     let mut i = 0;
     while i < n {
         let line = agents[i];
         let own = credits::agent::vmst(line);
-        let adjustment = credits::agent::vmpa(c, line[columns::PA]);
+        let adjustment = credits::agent::vmpa(b, c, line[columns::PA]);
         let row = [own, adjustment, vmant[i], line[columns::AGENT_RET], vc[i]];
         out[i] = row;
         i += 1;
@@ -41,6 +48,7 @@ fn rows(month: i64, agents: &[AgentLine], vmant: &[i64], vc: &[i64], out: &mut [
 // one more, for ONS. Answers the balance.
 fn work_out(
     debits: i64,
+    last: i64,
     line: MonthLine,
     agents: &[AgentLine],
     pb: &mut [i64],
@@ -48,16 +56,16 @@ fn work_out(
     vc: &mut [i64],
     out: &mut [PayeeRow],
 ) -> i64
-    requires { ⌜ Payable debits line (map agentOf (now agents))
+    requires { ⌜ Payable debits last line (map agentOf (now agents))
         × (length (now pb) ≡ length (now agents))
         × (length (now vmant) ≡ length (now agents))
         × (length (now vc) ≡ length (now agents))
         × (length (now out) ≡ length (now agents) + 1) ⌝ }
-    ensures { λ r. ⌜ StatesPayees debits line (map agentOf (now (agents .entry))) r (now (out .exit)) ⌝ }
+    ensures { λ r. ⌜ StatesPayees debits last line (map agentOf (now (agents .entry))) r (now (out .exit)) ⌝ }
 {
-    let balance = credits::payees::agent_credits(debits, line, agents, pb, vmant, vc);
+    let balance = credits::payees::agent_credits(debits, last, line, agents, pb, vmant, vc);
     let n = agents.len();
-    rows(line.month, agents, vmant, vc, &mut out[..n]);
+    rows(last, line.month, agents, vmant, vc, &mut out[..n]);
     let row = [0, 0, 0, 0, line.ons];
     out[n] = row;
     balance
@@ -66,12 +74,13 @@ fn work_out(
 // Writes the rows of a month that breaks no limit, `debits` being the sum of what its users owe. Answers the balance.
 pub(crate) fn state_payees(
     debits: i64,
+    last: i64,
     line: MonthLine,
     agents: &[AgentLine],
     out: &mut [PayeeRow],
 ) -> i64
-    requires { ⌜ Payable debits line (map agentOf (now agents)) × (length (now out) ≡ length (now agents) + 1) ⌝ }
-    ensures { λ r. ⌜ StatesPayees debits line (map agentOf (now (agents .entry))) r (now (out .exit)) ⌝ }
+    requires { ⌜ Payable debits last line (map agentOf (now agents)) × (length (now out) ≡ length (now agents) + 1) ⌝ }
+    ensures { λ r. ⌜ StatesPayees debits last line (map agentOf (now (agents .entry))) r (now (out .exit)) ⌝ }
 {
     let n = agents.len();
     let mut pb = [0i64; 256];
@@ -79,6 +88,7 @@ pub(crate) fn state_payees(
     let mut vc = [0i64; 256];
     work_out(
         debits,
+        last,
         line,
         agents,
         &mut pb[..n],

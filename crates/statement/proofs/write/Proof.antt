@@ -9,6 +9,9 @@ use Rattle.statement.proofs.Writing.{in-range, month, payable}
 use Rattle.statement.proofs.write.Statement.{statement}
 use Rattle.statement.proofs.write.Tie as tie
 
+last-fits : (s : tie.Start) → SFits w64 (s .args .ledger .month)
+last-fits s = search needs
+
 total-fits : (s : tie.Start) → SFits w64 (s .args .bills .total)
 total-fits s = search needs
 
@@ -26,20 +29,20 @@ state-users-requires c κs =
 
 state-payees-requires : tie.Need-state-payees-requires
 state-payees-requires c κs =
-    let s = c .before .before .before .before .before .before .before .before .before in
+    let s = c .before .before .before .before .before .before .before .before .before .before in
     let w = s .pre .2 in
-    rw (toZ-ofZ (total-fits s)) (payable w, w .payee-count)
+    rw (toZ-ofZ (total-fits s), toZ-ofZ (last-fits s)) (payable w, w .payee-count)
 
 returns : tie.Need-returns
 unfolding pointRows
 returns c st short w =
     let y = c .before in
-    let u = y .before .before .before .before in
+    let u = y .before .before .before .before .before in
     let t = u .before .before in
     let r = t .before .before in
     let s = r .before .before in
     let f : SFits w64 (y .state-payees .result) = search needs in
-    let e = rw (toZ-ofZ (total-fits s), w .billed .total) at (y .state-payees .ensures) in
+    let e = rw (toZ-ofZ (total-fits s), toZ-ofZ (last-fits s), w .last-is, w .billed .total) at (y .state-payees .ensures) in
     record {
       SMSE-is = toZ-ofZ f ∙ e .SMSE;
       points = r .rows .ensures;

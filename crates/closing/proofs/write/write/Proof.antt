@@ -20,6 +20,9 @@ use Rattle.closing.proofs.write.write.Tie as tie
 payees-fit : (s : tie.Start) → length (s .args .agents .now) + 1 ≤ 257
 payees-fit s = omega (arith, few-agents (s .pre .3))
 
+last-fits : (s : tie.Start) → SFits w64 (s .args .ledger .month)
+last-fits s = search needs
+
 total-fits : (s : tie.Start) → SFits w64 (s .args .bills .total)
 total-fits s = search needs
 
@@ -28,24 +31,24 @@ arrays s = (search needs, search needs)
 
 abbrev MayWrite : tie.Start → State → Verdict → Lines → Type 0
 MayWrite s st short l = Writable (s .args .bills) (s .args .line) (s .args .agents .now) (s .args .held .now) (s .args .cells .now)
-    (s .args .work .now) st short l
+    (s .args .work .now) (s .args .ledger) st short l
 
 abbrev start : tie.After-vcs → tie.Start
-start c = c .before .before .before .before .before .before
+start c = c .before .before .before .before .before .before .before
 
 -- what `vcs` has written are the credits of the payees
-credits-written : {st : State} {short : Verdict} {l : Lines} (c : tie.After-vcs) → MayWrite (start c) st short l → c .vcs .last .1 .1 .1 .0 ≡ VCs st l
+credits-written : {st : State} {short : Verdict} {l : Lines} (c : tie.After-vcs) → MayWrite (start c) st short l → c .vcs .last .1 .1 .1 .1 .0 ≡ VCs st l
 credits-written c w =
     let s = start c in
-    (rw (toZ-ofZ (total-fits s)) at (c .vcs .ensures)) ∙ credits-are w
+    (rw (toZ-ofZ (total-fits s), toZ-ofZ (last-fits s)) at (c .vcs .ensures)) ∙ credits-are w
 
 slice-aggregate-vcs : tie.Need-slice-aggregate-vcs
 slice-aggregate-vcs c = sym (length-take-le _ _ (payees-fit (c .before .before .before .before .before)))
 
 vcs-requires : tie.Need-vcs-requires
 vcs-requires c κs =
-    let s = c .before .before .before .before .before in
-    (rw (toZ-ofZ (total-fits s)) (payable (s .pre .3)), length-take-le _ _ (payees-fit s))
+    let s = c .before .before .before .before .before .before in
+    (rw (toZ-ofZ (total-fits s), toZ-ofZ (last-fits s)) (payable (s .pre .3)), length-take-le _ _ (payees-fit s))
 
 array-share-prefix-vc : tie.Need-array-share-prefix-vc
 array-share-prefix-vc c = let w = start (c .before) .pre .3 in payees-reach w (credits-written (c .before) w) _

@@ -1,7 +1,7 @@
 -- Every number on the way is within rules' bounds of what falls due.
 use mathlib.Core.Path.{_≡_}
 use borrow.Author.Needs.{needs}
-use lib.IntN.{pos, _-ℤ_, _*ℤ_}
+use lib.IntN.{pos, _*ℤ_}
 use mir.Facts.{toZ-ofZ}
 use Rattle.ints.specs.Floor.{floor}
 use Rattle.rules.specs.Credits.{VMPA}
@@ -9,25 +9,22 @@ use Rattle.rules.proofs.BoundsAgent.{DueBounds, due-bounds}
 use Rattle.credits.proofs.agent.vmpa.Statement.{statement}
 use Rattle.credits.proofs.agent.vmpa.Tie as tie
 
-bounds : (s : tie.Start) → DueBounds (s .args .c) (s .args .pa)
-bounds s = due-bounds (s .args .c) (s .pre .0) (s .pre .1)
+bounds : (s : tie.Start) → DueBounds (s .args .b) (s .args .c) (s .args .pa)
+bounds s = due-bounds (s .pre .0) (s .pre .1)
 
 due-is : (c : tie.After-floor-12) → let a = c .before .args in c .floor-12 .result ≡ floor (a .pa *ℤ a .c) (pos 12)
 due-is c = let s = c .before in simp (toZ-ofZ, s .fits .c, s .fits .pa, bounds s .due .fits) at (c .floor-12 .ensures)
 
-sub-floor-12 : tie.Need-sub-floor-12
-sub-floor-12 c = let s = c .before in simp (toZ-ofZ, s .fits .c) (bounds s .month-before .fits)
-
 mul-floor-12-2 : tie.Need-mul-floor-12-2
 mul-floor-12-2 c =
     let s = c .before in
-    simp (toZ-ofZ, s .fits .c, s .fits .pa, bounds s .month-before .fits) (bounds s .due-before .fits)
+    simp (toZ-ofZ, s .fits .b, s .fits .pa) (bounds s .due-before .fits)
 
-before-is : (c : tie.After-floor-122) → let a = c .before .before .args in c .floor-122 .result ≡ floor (a .pa *ℤ (a .c -ℤ pos 1)) (pos 12)
+before-is : (c : tie.After-floor-122) → let a = c .before .before .args in c .floor-122 .result ≡ floor (a .pa *ℤ a .b) (pos 12)
 before-is c =
     let s = c .before .before in
     let b = bounds s in
-    simp (toZ-ofZ, s .fits .c, s .fits .pa, b .month-before .fits, b .due-before .fits) at (c .floor-122 .ensures)
+    simp (toZ-ofZ, s .fits .b, s .fits .pa, b .due-before .fits) at (c .floor-122 .ensures)
 
 sub-result : tie.Need-sub-result
 sub-result c =
@@ -46,7 +43,6 @@ vmpa-spec =
     (tie.spec
     (λ c. simp (toZ-ofZ, c .fits .c, c .fits .pa) (bounds c .due .fits))
     (λ c κs. search needs)
-    sub-floor-12
     mul-floor-12-2
     (λ c κs. search needs)
     sub-result

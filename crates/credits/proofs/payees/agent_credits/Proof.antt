@@ -11,7 +11,7 @@ use Rattle.ints.specs.Bounds.{word-abs}
 use Rattle.ints.specs.Sums.{sumℤ}
 use Rattle.share.specs.Laws.{length-share}
 use Rattle.rules.specs.Lines.{Agent, agentOf}
-use Rattle.rules.specs.Credits.{ownCredits, SMSEFrom, pbs, VMANTsFrom, agentVCsFrom}
+use Rattle.rules.specs.Credits.{ownCreditsFrom, SMSEFrom, pbs, VMANTsFrom, agentVCsFrom}
 use Rattle.credits.specs.Payable.{Payable}
 use Rattle.credits.proofs.Amounts.{own-small, own-summable, own-total, fillable, parts-within}
 use Rattle.credits.proofs.payees.agent_credits.Statement.{statement}
@@ -22,24 +22,24 @@ module _ (s : tie.Start) where
   lines = map agentOf (s .args .agents .now)
 
   abbrev own : List ℤ
-  own = ownCredits (s .args .line) lines
+  own = ownCreditsFrom (s .args .last) (s .args .line) lines
 
   abbrev weights : List ℤ
   weights = pbs lines
 
   abbrev balance : ℤ
-  balance = SMSEFrom (s .args .debits) (s .args .line) lines
+  balance = SMSEFrom (s .args .debits) (s .args .last) (s .args .line) lines
 
-  abbrev p : Payable (s .args .debits) (s .args .line) lines
+  abbrev p : Payable (s .args .debits) (s .args .last) (s .args .line) lines
   p = s .pre .0
 
-own-is : (c : tie.After-own-credits) → c .own-credits .last .1 .1 .0 ≡ own (c .before .before)
-own-is c = c .own-credits .ensures
+own-is : (c : tie.After-own-credits) → c .own-credits .last .1 .1 .1 .0 ≡ own (c .before .before)
+own-is c = let s = c .before .before in rw (toZ-ofZ (s .fits .last)) at (c .own-credits .ensures)
 
 total-requires : tie.Need-total-requires
 total-requires c κs =
     let s = c .before .before .before .before in
-    rw (own-is (c .before .before)) (own-summable (p s .lines) (s .args .line) (p s .possible))
+    rw (own-is (c .before .before)) (own-summable (p s .lines) (s .args .last) (s .args .line) (p s .months))
 
 total-is : (c : tie.After-total) → c .total .result ≡ sumℤ (own (c .before .before .before .before .before))
 total-is c = c .total .ensures ∙ ap sumℤ (own-is (c .before .before .before))
@@ -53,7 +53,7 @@ smse-requires c κs =
     let s = d .before .before .before .before .before in
     let f : SFits w64 (s .args .line .ons) = search needs in
     rw (toZ-ofZ (s .fits .debits), toZ-ofZ f, toZ-ofZ (total-fits d), total-is d)
-    (p s .owed, word-abs (own-total (p s .lines) (s .args .line) (p s .possible)), p s .fee)
+    (p s .owed, word-abs (own-total (p s .lines) (s .args .last) (s .args .line) (p s .months)), p s .fee)
 
 balance-is : (c : tie.After-smse) → c .smse .result ≡ balance (c .before .before .before .before .before .before .before)
 unfolding SMSEFrom
@@ -78,7 +78,7 @@ fill-requires c κs =
     (fillable (p s) (rw length-map (s .pre .2)))
 
 parts-are : (c : tie.After-fill) → let s = c .before .before .before .before .before .before .before .before .before .before .before .before .before .before in
-    c .fill .last .1 .1 .1 .0 ≡ VMANTsFrom (s .args .debits) (s .args .line) (lines s)
+    c .fill .last .1 .1 .1 .0 ≡ VMANTsFrom (s .args .debits) (s .args .last) (s .args .line) (lines s)
 unfolding VMANTsFrom
 parts-are c =
     let t = c .before .before .before in
@@ -93,15 +93,15 @@ module _ (c : tie.After-fill) where
   abbrev s : tie.Start
   s = o .before .before
 
-  long : length (VMANTsFrom (s .args .debits) (s .args .line) (lines s)) ≡ length (own s)
-  unfolding VMANTsFrom ownCredits
+  long : length (VMANTsFrom (s .args .debits) (s .args .last) (s .args .line) (lines s)) ≡ length (own s)
+  unfolding VMANTsFrom ownCreditsFrom
   long = length-share (balance s) (weights s) ∙ simp length-map
 
 add-each-requires : tie.Need-add-each-requires
 add-each-requires c κs =
     let f = c .before .before .before in
     let q = p (s f) in
-    rw (parts-are f, own-is (o f)) (parts-within q, own-small (q .lines) _ (q .possible), long f)
+    rw (parts-are f, own-is (o f)) (parts-within q, own-small (q .lines) _ _ (q .months), long f)
 
 returns : tie.Need-returns
 unfolding agentVCsFrom

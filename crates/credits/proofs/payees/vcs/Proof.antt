@@ -21,7 +21,7 @@ few s = rw length-map at (s .pre .0 .lines .few)
 agent-credits-requires : tie.Need-agent-credits-requires
 agent-credits-requires c κs =
     let s = c .before .before .before in (
-      rw (toZ-ofZ (s .fits .debits)) (s .pre .0),
+      rw (toZ-ofZ (s .fits .debits), toZ-ofZ (s .fits .last)) (s .pre .0),
       length-take-le _ _ (few s),
       length-take-le _ _ (few s),
       length-take-le _ _ (omega arith),
@@ -32,11 +32,11 @@ unfolding VCsFrom
 returns c =
     let d = c .before .before .before .before in
     let s = d .before .before .before .before in
-    let k = d .agent-credits .kept .1 .1 .1 .1 .1 .0 in
-    let e = rw (toZ-ofZ (s .fits .debits)) at (d .agent-credits .ensures .VCs) in
+    let k = d .agent-credits .kept .1 .1 .1 .1 .1 .1 .0 in
+    let e = rw (toZ-ofZ (s .fits .debits), toZ-ofZ (s .fits .last)) at (d .agent-credits .ensures .VCs) in
     let f : SFits w64 (s .args .line .ons) = search needs in
     rw (toZ-ofZ f)
-    (set-last (d .agent-credits .last .1 .1 .1 .1 .1 .0) (s .args .vc .now) _ (s .args .line .ons) (s .pre .1) (k ∙ length-take-le _ _ (omega arith))
+    (set-last (d .agent-credits .last .1 .1 .1 .1 .1 .1 .0) (s .args .vc .now) _ (s .args .line .ons) (s .pre .1) (k ∙ length-take-le _ _ (omega arith))
     ∙ ap (λ (l : List ℤ). l ++ s .args .line .ons ∷ []) e)
 
 pub vcs-spec : {M : Type 1} → statement M

@@ -22,10 +22,10 @@ rows-requires : tie.Need-rows-requires
 rows-requires c κs =
     let d = c .before .before .before .before .before .before .before in
     let s = c .before .before .before .before .before .before .before .before .before .before .before in (
-      rw (toZ-ofZ (month-fits s)) (s .pre .0 .possible),
+      rw (toZ-ofZ (s .fits .last), toZ-ofZ (month-fits s)) (s .pre .0 .months),
       s .pre .0 .lines,
-      d .agent-credits .kept .1 .1 .1 .1 .0 ∙ s .pre .2,
-      d .agent-credits .kept .1 .1 .1 .1 .1 .0 ∙ s .pre .3,
+      d .agent-credits .kept .1 .1 .1 .1 .1 .0 ∙ s .pre .2,
+      d .agent-credits .kept .1 .1 .1 .1 .1 .1 .0 ∙ s .pre .3,
       length-take-le _ _ (omega (arith, s .pre .4)),
     )
 
@@ -37,13 +37,13 @@ returns c =
     let s = c .before .before .before .before .before .before .before .before .before .before .before .before .before .before in
     let f : SFits w64 (d .agent-credits .result) = search needs in
     let o : SFits w64 (s .args .line .ons) = search needs in
-    let a = rw (toZ-ofZ (s .fits .debits)) at (d .agent-credits .ensures) in
-    let e = rw (toZ-ofZ (month-fits s), a .VMANTs, a .VCs) at (r .rows .ensures) in
-    let long = r .rows .kept .1 .1 .1 .1 .0 ∙ length-take-le (length (s .args .agents .now)) (s .args .out .now) (omega (arith, s .pre .4)) in
+    let a = rw (toZ-ofZ (s .fits .debits), toZ-ofZ (s .fits .last)) at (d .agent-credits .ensures) in
+    let e = rw (toZ-ofZ (s .fits .last), toZ-ofZ (month-fits s), a .VMANTs, a .VCs) at (r .rows .ensures) in
+    let long = r .rows .kept .1 .1 .1 .1 .1 .0 ∙ length-take-le (length (s .args .agents .now)) (s .args .out .now) (omega (arith, s .pre .4)) in
     let last = onsRow (s .args .line .ons) in
     record {
       SMSE = toZ-ofZ f ∙ a .SMSE;
-      rows-are = rw (toZ-ofZ o, set-last (r .rows .last .1 .1 .1 .1 .0) (s .args .out .now) (length (s .args .agents .now)) last (s .pre .4) long, e);
+      rows-are = rw (toZ-ofZ o, set-last (r .rows .last .1 .1 .1 .1 .1 .0) (s .args .out .now) (length (s .args .agents .now)) last (s .pre .4) long, e);
     }
 
 pub work-out-spec : {M : Type 1} → statement M

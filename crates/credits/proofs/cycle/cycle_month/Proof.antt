@@ -15,8 +15,8 @@ use Rattle.ints.specs.Bridge.{za, above#}
 use Rattle.ints.specs.Words.{quot-small, rem-small, rem-floor}
 use Rattle.rules.specs.Calendar.{monthOfYear, inCycle, cycleMonth}
 use Rattle.rules.proofs.Fits.{Possible, possible}
-use Rattle.credits.proofs.agent.cycle_month.Statement.{statement}
-use Rattle.credits.proofs.agent.cycle_month.Tie as tie
+use Rattle.credits.proofs.cycle.cycle_month.Statement.{statement}
+use Rattle.credits.proofs.cycle.cycle_month.Tie as tie
 
 module _ {m : ℤ} (p : Possible m) where
   quot-fits : SFits w64 (quotZ m (pos 100))
