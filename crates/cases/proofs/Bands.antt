@@ -6,7 +6,7 @@ use Rattle.ints.specs.Sums.{sumℤ}
 use Rattle.share.specs.Running.{part, partsFrom, runningShare}
 use Rattle.rules.specs.Verdict.{eachLine}
 use Rattle.rules.specs.Lists.{eachFrom, sideBySide}
-use Rattle.rules.specs.Calendar.{monthOfYear, impossibleMonth, cycleMonth, settledTo}
+use Rattle.rules.specs.Calendar.{monthOfYear, impossibleMonth, cycleMonth, cycleOf, settledTo}
 use Rattle.rules.specs.Lines.{kindOf, badAgent, badUser, badPoint, unfitPoint}
 use Rattle.rules.specs.Charges.{halfUp, orZero, useCharge, allowance, excess, overrun, ofUser, EUSTs, overrunSums, VMEs, pvTotal, CPVs, ns, VDs, newCredits}
 use Rattle.rules.specs.Credits.{VMPA, VMST, ownCredit, ownCreditsFrom, SMSEFrom, VMANTsFrom, agentVCsFrom, VCsFrom}
@@ -17,8 +17,8 @@ use Rattle.cases.specs.Bands.{ByBand}
 pub by-band : ByBand
 unfolding after verdicts refusal badCounts shortSlices badMonth countTests stateTests linesBeforePoints lineTests sumTests eachLine outside impossibleMonth
     monthOfYear kindOf badAgent badUser badPoint unfitPoint floor sumℤ eachFrom sideBySide halfUp orZero useCharge allowance excess overrun ofUser EUSTs
-    overrunSums VMEs pvTotal CPVs ns VDs newCredits runningShare partsFrom part cycleMonth settledTo VMPA VMST ownCredit ownCreditsFrom SMSEFrom VMANTsFrom agentVCsFrom
-    VCsFrom
+    overrunSums VMEs pvTotal CPVs ns VDs newCredits runningShare partsFrom part cycleMonth cycleOf settledTo VMPA VMST ownCredit ownCreditsFrom SMSEFrom
+    VMANTsFrom agentVCsFrom VCsFrom
 by-band =
     record {
       answers = refl;

@@ -1,3 +1,4 @@
 pub mod Tables
 pub mod Checked
 pub mod Bands
+pub mod Skipped

@@ -13,16 +13,22 @@ use Rattle.rules.specs.Limits.{Month}
 use Rattle.rules.specs.TariffYear.{LastBefore}
 use Rattle.rules.proofs.Fits.{possible, not-impossible}
 
-pub mm-is : {m : ℤ} (t : Month m) → monthOfYear m ≡ t .mm
-unfolding monthOfYear
-mm-is {m} t =
+pub year-is : {m : ℤ} (t : Month m) → floor m (pos 100) ≡ t .yyyy
+year-is {m} t =
     let y = t .yyyy in
     let r = add# (y *ℤ pos 100) (t .mm) in
     let p = mul# y (pos 100) in
     let a = t .is in
     let c = t .month in
-    let q : y ≡ floor m (pos 100) = floor-eq (omega arith) (floor-out (record { low = omega za; high = omega za })) in
-    ap (λ (x : ℤ). m -ℤ x *ℤ pos 100) (sym q) ∙ (let d = sub# m (y *ℤ pos 100) in omega za)
+    sym (floor-eq (omega arith) (floor-out (record { low = omega za; high = omega za })))
+
+pub mm-is : {m : ℤ} (t : Month m) → monthOfYear m ≡ t .mm
+unfolding monthOfYear
+mm-is {m} t =
+    let y = t .yyyy in
+    let r = add# (y *ℤ pos 100) (t .mm) in
+    let a = t .is in
+    ap (λ (x : ℤ). m -ℤ x *ℤ pos 100) (year-is t) ∙ (let d = sub# m (y *ℤ pos 100) in omega za)
 
 -- there are exactly those that the test lets pass
 pub month-possible : (m : ℤ) → Month m ↔ (impossibleMonth m ≡ false)

@@ -15,7 +15,7 @@ use Rattle.rules.specs.declared.Ledger.{Ledger}
 use Rattle.rules.specs.declared.Answer.the-variants.{Accepted, Refused}
 use Rattle.rules.specs.Verdict.{accepted, refused, eachLine}
 use Rattle.rules.specs.Lists.{eachFrom, sideBySide}
-use Rattle.rules.specs.Calendar.{monthOfYear, impossibleMonth, cycleMonth, settledTo}
+use Rattle.rules.specs.Calendar.{monthOfYear, impossibleMonth, cycleMonth, cycleOf, settledTo}
 use Rattle.rules.specs.Lines.{Lines, monthLines, kindOf, badAgent, badUser, badPoint, unfitPoint}
 use Rattle.rules.specs.July.{julyLine, julyAgents, julyPoints, lines, points, july}
 use Rattle.rules.specs.Charges.{halfUp, orZero, useCharge, allowance, excess, overrun, ofUser, EUSTs}
@@ -113,8 +113,8 @@ again = refl
 
 -- ---- credits and debits of the accepted ones, and a table of them: here every exact value is whole
 VCs₁ : pos 635 ∷ pos 1235 ∷ pos 100 ∷ [] ≡ VCs (stateOf new held₁) july
-unfolding VCsFrom agentVCsFrom VMANTsFrom SMSEFrom ownCreditsFrom ownCredit VMST VMPA settledTo cycleMonth monthOfYear floor eachFrom sideBySide sumℤ halfUp orZero useCharge
-    allowance excess overrun ofUser EUSTs overrunSums VMEs pvTotal CPVs ns VDs part partsFrom runningShare
+unfolding VCsFrom agentVCsFrom VMANTsFrom SMSEFrom ownCreditsFrom ownCredit VMST VMPA settledTo cycleOf cycleMonth monthOfYear floor eachFrom sideBySide sumℤ
+    halfUp orZero useCharge allowance excess overrun ofUser EUSTs overrunSums VMEs pvTotal CPVs ns VDs part partsFrom runningShare
 VCs₁ = refl
 
 VDs₁ : pos 394 ∷ pos 1576 ∷ [] ≡ VDs (stateOf new held₁) july
@@ -128,8 +128,8 @@ unfolding floor eachFrom sideBySide sumℤ halfUp orZero useCharge allowance exc
 new₁ = refl
 
 VCs₂ : pos 504 ∷ pos 972 ∷ pos 100 ∷ [] ≡ VCs (stateOf (ledger (pos 202407)) held₂) august
-unfolding VCsFrom agentVCsFrom VMANTsFrom SMSEFrom ownCreditsFrom ownCredit VMST VMPA settledTo cycleMonth monthOfYear floor eachFrom sideBySide sumℤ halfUp orZero useCharge
-    allowance excess overrun ofUser EUSTs overrunSums VMEs pvTotal CPVs ns VDs part partsFrom runningShare
+unfolding VCsFrom agentVCsFrom VMANTsFrom SMSEFrom ownCreditsFrom ownCredit VMST VMPA settledTo cycleOf cycleMonth monthOfYear floor eachFrom sideBySide sumℤ
+    halfUp orZero useCharge allowance excess overrun ofUser EUSTs overrunSums VMEs pvTotal CPVs ns VDs part partsFrom runningShare
 VCs₂ = refl
 
 VDs₂ : pos 0 ∷ pos 1576 ∷ [] ≡ VDs (stateOf (ledger (pos 202407)) held₂) august

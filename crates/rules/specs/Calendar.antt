@@ -1,7 +1,8 @@
--- Months (paper 01, "A month's lines" and "Credits of a payee"; paper 02, Q-7).
+-- Months (paper 01, "A month's lines" and "Credits of a payee"; paper 02, Q-7 and Q-8).
 use Prim.Native.Nat.{ℕ}
 use mathlib.Core.Bool.{Bool, cond, _||_}
 use lib.IntN.{ℤ, pos, _-ℤ_, _*ℤ_}
+use lib.Signed.{ltZ}
 use Rattle.ints.specs.Floor.{floor}
 use Rattle.ints.specs.Range.{outside, eqZ}
 
@@ -43,6 +44,16 @@ inCycle mm =
 unfoldable pub cycleMonth : ℤ → ℤ
 cycleMonth m = inCycle (monthOfYear m)
 
--- the cycle month that yearly adjustments are settled to when the month m closes, last being the last closed month (0 for none)
+-- its cycle, July to June: the year of the July that begins it
+unfoldable pub cycleOf : ℤ → ℤ
+cycleOf m = cond (ltZ (monthOfYear m) (pos 7)) (floor m (pos 100) -ℤ pos 1) (floor m (pos 100))
+
+abbrev pub sameCycle : ℤ → ℤ → Bool
+sameCycle a m = eqZ (cycleOf a) (cycleOf m)
+
+-- the cycle month that yearly adjustments are settled to when the month m closes, last being the last closed month (0 for none): that of
+-- the last closed month where it lies in the same cycle, 0 where it lies in an earlier one; c − 1 where none is closed
 unfoldable pub settledTo : ℤ → ℤ → ℤ
-settledTo last m = cycleMonth m -ℤ pos 1
+settledTo last m =
+    cond (eqZ last (pos 0)) (cycleMonth m -ℤ pos 1)
+    (cond (sameCycle last m) (cycleMonth last) (pos 0))

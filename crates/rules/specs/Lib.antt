@@ -18,6 +18,7 @@ pub mod Sisters
 pub mod Tested
 pub mod Calls
 pub mod Tally
+pub mod WholeCycle
 pub mod Demand
 pub mod Demand1
 pub mod July

@@ -1,4 +1,4 @@
--- The tariff year read against the calendar (paper 02, Q-7).
+-- The tariff year read against the calendar (paper 02, Q-7 and Q-8).
 use mathlib.Core.Path.{_≡_}
 use mathlib.Core.Logic.{_≢_}
 use lib.IntN.{ℤ, pos, _+ℤ_}
@@ -17,3 +17,11 @@ pub record LastBefore (m b : ℤ) : Type 0 where
   pub exists : Month b
   pub earlier : b <ℤ m
   pub last : (n : ℤ) → Month n → n <ℤ m → n ≤ℤ b
+
+-- a July lies after the month a and up to m
+pub record JulyBetween (a m : ℤ) : Type 0 where
+  pub july : ℤ
+  pub exists : Month july
+  pub mm : exists .mm ≡ pos 7
+  pub after : a <ℤ july
+  pub upto : july ≤ℤ m

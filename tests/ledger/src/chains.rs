@@ -4,7 +4,7 @@ use crate::call::{Call, State, HELD_ENTRIES};
 use crate::limits::plain;
 use rateio_reference::faults;
 use rateio_reference::lines::MonthLines;
-use rateio_reference::months::{self, any_month, counts_up_to, next_month, sound_month, Counts, STYLES};
+use rateio_reference::months::{self, any_month, counts_up_to, month_after, moved, sound_month, Counts, STYLES};
 use rateio_reference::refusals::MAX_HELD;
 use rateio_reference::rng::Rng;
 
@@ -22,7 +22,7 @@ fn chain(rng: &mut Rng, counts: Counts, closings: usize, calls: &mut Vec<Call>) 
     for _ in 0..closings {
         let style = rng.pick(&STYLES);
         let mut lines = sound_month(rng, style, counts);
-        lines.month = if rng.chance(85) { next_month(last) } else { any_month(rng) };
+        lines.month = month_after(rng, last);
         let mut call = Call::next(lines, counts.users + rng.below(spare + 1));
         call.patterns = [rng.below(3) as u64, rng.below(3) as u64];
         call.lent_cells += rng.below(3);
@@ -134,7 +134,11 @@ pub fn singles(rng: &mut Rng, count: usize) -> Vec<Call> {
         call.patterns = [rng.below(3) as u64, rng.below(3) as u64];
         call.held = months::held_credits(rng, counts.users + 4);
         call.lent_held += rng.below(4);
-        call.ledger.month = if rng.chance(60) { 0 } else { any_month(rng) };
+        call.ledger.month = match rng.below(10) {
+            0..=4 => 0,
+            5..=7 => any_month(rng),
+            _ => moved(call.lines.month, -rng.between(1, 18)),
+        };
         if rng.chance(10) {
             // also beyond the users, where any number may stand
             let entry = rng.below(call.held.len());

@@ -4,7 +4,7 @@ use crate::call::{Call, CELLS_ENTRIES, HELD_ENTRIES, WORK_ENTRIES};
 use crate::orders::due;
 use rateio_reference::ledger::Ledger;
 use rateio_reference::lines::{Agent, MonthLines, Point, User, CONSUMER};
-use rateio_reference::months::{sound_month, Counts, Style, STYLES};
+use rateio_reference::months::{moved, sound_month, Counts, Style, STYLES};
 use rateio_reference::refusals::{Refusal, MAX_HELD};
 use rateio_reference::rng::Rng;
 
@@ -80,12 +80,27 @@ const MONTHS: [i64; 30] = [
     i64::MAX,
 ];
 
-/// Every last closed month with every month to close.
+/// Every last closed month with every month to close. Of two agents, since a VMPA moves no credit of one alone.
 pub fn months() -> Vec<Call> {
     let mut calls = Vec::new();
     for last in MONTHS {
         for month in MONTHS {
-            let mut call = Call::close(MonthLines { month, ..plain(1, 1, 1) });
+            let mut call = Call::close(MonthLines { month, ..plain(1, 2, 1) });
+            call.ledger.month = last;
+            calls.push(call);
+        }
+    }
+    calls
+}
+
+/// Every month of a cycle, and of the one after it, to close after each earlier month of the first and after none. The
+/// adjustments of the agents leave every remainder over 12.
+pub fn skipped() -> Vec<Call> {
+    let cycles: Vec<i64> = (0..24).map(|k| moved(202_307, k)).collect();
+    let mut calls = Vec::new();
+    for (k, &month) in cycles.iter().enumerate() {
+        for &last in [0].iter().chain(&cycles[..k.min(12)]) {
+            let mut call = Call::close(MonthLines { month, ..plain(2, 12, 2) });
             call.ledger.month = last;
             calls.push(call);
         }

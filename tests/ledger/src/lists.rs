@@ -54,6 +54,7 @@ pub fn parts(vectors: &str) -> Vec<Vec<List>> {
         List::new("pairs", orders::pairs(rng)),
         List::new("slices", limits::slices()),
         List::new("months", limits::months()),
+        List::new("skipped", limits::skipped()),
         List::new("held credits", limits::credits()),
         List::new("past the limit", chains::past_the_limit()),
         List::new("counts", limits::counts(rng)),

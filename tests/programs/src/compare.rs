@@ -3,6 +3,7 @@
 use crate::child::{Desk, Program, Runner};
 use crate::inputs::{self, Input};
 use crate::rows;
+use rateio_reference::credits::{cycle, cycle_month, settled_to};
 use rateio_reference::program::{self, Event, PROGRAM_INPUT};
 use rateio_reference::{consulta, texts};
 use std::ops::Range;
@@ -33,6 +34,9 @@ pub struct Counts {
     pub files: usize,
     pub closed: usize,
     pub with_credit: usize,
+    /// Closed months before which months of their own cycle were skipped, by where the last closed one lies: in that
+    /// cycle, in the one before it, in an earlier one.
+    pub skipped: [usize; 3],
     pub cells: usize,
     /// By the refusal's number.
     pub refused: [usize; 13],
@@ -48,12 +52,18 @@ impl Counts {
         self.sizes.iter_mut().zip(sizes).for_each(|(count, is_so)| *count += u64::from(is_so));
         self.line_ends.iter_mut().zip(line_ends(input, events)).for_each(|(count, is_so)| *count += u64::from(is_so));
         self.files += events.len();
+        let mut last = 0;
         for event in events {
             match event {
                 Event::Refused(refusal) => self.refused[refusal.number as usize] += 1,
                 Event::Closed(closed) => {
                     self.closed += 1;
                     self.with_credit += usize::from(closed.held_before.iter().any(|&credit| credit > 0));
+                    let month = closed.month();
+                    if last != 0 && settled_to(last, month) < cycle_month(month) - 1 {
+                        self.skipped[(cycle(month) - cycle(last)).min(2) as usize] += 1;
+                    }
+                    last = month;
                     self.cells += closed.vc().len() * closed.vd().len();
                 }
             }
@@ -179,7 +189,8 @@ pub fn report(settle: &Program, consulta: &Program, count: u64, listed: &[Input]
     let start = Instant::now();
     let (counts, differences) = compare(settle, consulta, &inputs::input, 0..count, ENOUGH, folder)?;
     no_differences("input", &counts, &differences, folder)?;
-    let Counts { inputs, bytes, in_pieces, sizes, line_ends, files, closed, with_credit, cells, refused } = counts;
+    let Counts { inputs, bytes, in_pieces, sizes, line_ends, files, closed, with_credit, skipped, cells, refused } =
+        counts;
     println!(
         "programs: {} inputs through each ({} bytes, {} inputs in pieces), {} files",
         inputs, bytes, in_pieces, files
@@ -191,6 +202,11 @@ pub fn report(settle: &Program, consulta: &Program, count: u64, listed: &[Input]
     );
     print_line_ends(line_ends);
     println!("programs: {} months closed ({} with credits held before), {} cells", closed, with_credit, cells);
+    let [in_cycle, before, earlier] = skipped;
+    println!(
+        "programs: with months of their cycle skipped {} closed after one of it, {} after the cycle before, {} after an earlier",
+        in_cycle, before, earlier
+    );
     let by_number: Vec<String> = (1..13).map(|number| format!("{}: {}", number, refused[number])).collect();
     println!("programs: refusals by number {}", by_number.join(", "));
     // The programs' own slices are never short (2); and an input holds less than 400 months, each of which raises a
@@ -199,8 +215,8 @@ pub fn report(settle: &Program, consulta: &Program, count: u64, listed: &[Input]
     if unseen != [2, 4] {
         return Err(format!("refusals {:?} never came up, and 2 and 4 alone should not", unseen));
     }
-    if sizes.contains(&0) || line_ends.contains(&0) {
-        return Err("one of these sizes or line ends never came up".to_string());
+    if sizes.contains(&0) || line_ends.contains(&0) || skipped.contains(&0) {
+        return Err("one of these sizes, line ends or skipped months never came up".to_string());
     }
     println!("programs: 0 differences, {:.1} s", start.elapsed().as_secs_f64());
 

@@ -1,5 +1,5 @@
-//! Inputs that are listed one by one: a CR at every place, the longest input in CR LF, every month of the calendar, and
-//! the stored runs.
+//! Inputs that are listed one by one: a CR at every place, the longest input in CR LF, every month of the calendar, months
+//! skipped or refused in a cycle, and the stored runs.
 
 use crate::inputs::{exact, in_turn, Ends, Input};
 use rateio_reference::lines::{Agent, MonthLines, User, CONSUMER};
@@ -14,6 +14,7 @@ pub fn inputs(runs: &[&str]) -> Result<Vec<Input>, String> {
     let mut inputs = cr_at_every_place();
     inputs.extend(longest());
     inputs.extend(calendar()?);
+    inputs.extend(skipped()?);
     for path in runs {
         inputs.extend(stored(path)?.into_iter().map(|input| ("a stored run", input)));
     }
@@ -53,18 +54,48 @@ fn longest() -> Vec<Input> {
     inputs
 }
 
-/// Every month that exists, a year an input, all of them closed. No two cycle months have the same VMPA of adjustments
-/// of 1 to 11 cents, so the agents' VMPA tell which one it is.
-fn calendar() -> Result<Vec<Input>, String> {
+/// A month that closes. No two cycle months have the same VMPA of adjustments of 1 to 11 cents where one twelfth is due,
+/// so the agents' VMPA tell which one it is; that of 12 cents tells how many twelfths are due.
+fn telling(month: i64) -> MonthLines {
     let agent = |pa: i64| Agent { number: pa, pb: pa, pv: 0, afs: 0, rfs: 0, pa, ret: 0 };
     let users = vec![User { number: 1, kind: CONSUMER, ret: 100 }];
-    let lines = MonthLines { month: 0, ons: 1, agents: (1..12).map(agent).collect(), users, points: Vec::new() };
-    let months: Vec<MonthLines> = months::calendar().map(|month| MonthLines { month, ..lines.clone() }).collect();
+    MonthLines { month, ons: 1, agents: (1..=12).map(agent).collect(), users, points: Vec::new() }
+}
+
+/// Every month that exists, a year an input, all of them closed.
+fn calendar() -> Result<Vec<Input>, String> {
+    let months: Vec<MonthLines> = months::calendar().map(telling).collect();
     let inputs: Vec<Input> = months.chunks(12).map(|year| ("a year of the calendar", texts::files(year))).collect();
+    closing(inputs, 1200)
+}
+
+/// Each month of a cycle skipped, and each refused, from the June before it to the July after it; each month of a cycle
+/// and any later one of it or of the next two, with none between them; and the first month that exists with the last.
+fn skipped() -> Result<Vec<Input>, String> {
+    let all: Vec<i64> = (0..14).map(|k| months::moved(202_306, k)).collect();
+    let mut inputs = Vec::new();
+    for out in &all[1..13] {
+        let others = all.iter().filter(|&month| month != out).map(|&month| telling(month));
+        inputs.push(("a month skipped", texts::files(&others.collect::<Vec<_>>())));
+        let mut refused: Vec<MonthLines> = all.iter().map(|&month| telling(month)).collect();
+        refused.iter_mut().filter(|lines| lines.month == *out).for_each(|lines| lines.ons = -1);
+        inputs.push(("a month refused", texts::files(&refused)));
+    }
+    let two = |last: i64, month: i64| ("two months", texts::files(&[telling(last), telling(month)]));
+    let cycles: Vec<i64> = (0..36).map(|k| months::moved(202_307, k)).collect();
+    for (k, &last) in cycles[..12].iter().enumerate() {
+        inputs.extend(cycles[k + 1..].iter().map(|&month| two(last, month)));
+    }
+    inputs.push(two(200_001, 209_912));
+    closing(inputs, 24 * 13 + 355 * 2)
+}
+
+/// These inputs, in which so many months close.
+fn closing(inputs: Vec<Input>, months: usize) -> Result<Vec<Input>, String> {
     let events = inputs.iter().flat_map(|(_, text)| events(text));
     match events.filter(|event| matches!(event, Event::Closed(_))).count() {
-        1200 => Ok(inputs),
-        closed => Err(format!("{} months of the calendar closed, of 1,200", closed)),
+        closed if closed == months => Ok(inputs),
+        closed => Err(format!("{} months closed, of {}: {}", closed, months, inputs[0].0)),
     }
 }
 

@@ -4,6 +4,7 @@
 use crate::compare::compare;
 use crate::inputs::input;
 use crate::rows;
+use rateio_reference::credits::Credits;
 use rateio_reference::program::{self, events, Event, PROGRAM_CAPACITY, PROGRAM_INPUT};
 use rateio_reference::read::read_month;
 use rateio_reference::refusals::Refusal;
@@ -16,12 +17,13 @@ use std::path::Path;
 pub const NO_FAULT: &str = "none";
 
 /// What is wrong, and whether only `consulta` can have it.
-const FAULTS: [(&str, bool); 24] = [
+const FAULTS: [(&str, bool); 25] = [
     ("cent moved round a ring", false),
     ("cent added to a cell", false),
     ("cells rounded one by one", false),
     ("held credit", false),
     ("credits forgotten", false),
+    ("one twelfth whatever was skipped", false),
     ("place", false),
     ("number", false),
     ("no names", false),
@@ -91,6 +93,16 @@ fn faulty_events(input: &[u8], fault: &str) -> Vec<Event> {
                 found.extend(events(input).pop());
             }
             found
+        }
+        "one twelfth whatever was skipped" => {
+            let mut events = events(input);
+            for event in &mut events {
+                if let Event::Closed(closed) = event {
+                    // As if it were the ledger's first month.
+                    closed.amounts.credits = Credits::of_month(&closed.lines, 0, closed.vd());
+                }
+            }
+            events
         }
         "takes a lone CR" => {
             let lf_next = |at: usize| input.get(at + 1) == Some(&b'\n');

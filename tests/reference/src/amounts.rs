@@ -11,10 +11,11 @@ pub struct Amounts {
 }
 
 impl Amounts {
-    /// The amounts of a month that breaks no limit, from its lines and the credits held so far.
-    pub fn of_month(lines: &MonthLines, credits: &[i128]) -> Amounts {
+    /// The amounts of a month that breaks no limit, from its lines, the last closed month (0 for none) and the credits
+    /// held so far.
+    pub fn of_month(lines: &MonthLines, last: i64, credits: &[i128]) -> Amounts {
         let charges = Charges::of_month(lines, credits);
-        let credits = Credits::of_month(lines, &charges.vd);
+        let credits = Credits::of_month(lines, last, &charges.vd);
         Amounts { charges, credits }
     }
 }

@@ -27,10 +27,30 @@ pub fn cycle_month(month: i64) -> i64 {
     }
 }
 
-/// VMPA of the cycle month `c`: twelve of them total `pa`.
-pub fn vmpa(pa: i128, c: i64) -> i128 {
+/// The year of the July that begins the month's cycle.
+pub fn cycle(month: i64) -> i64 {
+    match month % 100 {
+        7..=12 => month / 100,
+        _ => month / 100 - 1,
+    }
+}
+
+/// The cycle month up to which the adjustment is settled before `month` closes, b of paper 02, Q-8. `last` is the last
+/// closed month, 0 for none: a refused month settles nothing.
+pub fn settled_to(last: i64, month: i64) -> i64 {
+    if last == 0 {
+        cycle_month(month) - 1
+    } else if cycle(last) == cycle(month) {
+        cycle_month(last)
+    } else {
+        0
+    }
+}
+
+/// VMPA: the twelfths of `pa` after the cycle month `b`, up to `c` (paper 02, Q-8).
+pub fn vmpa(pa: i128, b: i64, c: i64) -> i128 {
     let through = |months: i64| (pa * i128::from(months)).div_euclid(12);
-    through(c) - through(c - 1)
+    through(c) - through(b)
 }
 
 /// VMST of an agent.
@@ -39,12 +59,13 @@ pub fn vmst(agent: &Agent) -> i128 {
 }
 
 impl Credits {
-    /// All amounts of a month that breaks none of the limits 1 to 9, from its lines and its debits.
-    pub fn of_month(lines: &MonthLines, vd: &[i128]) -> Credits {
-        let c = cycle_month(lines.month);
+    /// All amounts of a month that breaks none of the limits 1 to 9, from its lines, the last closed month (0 for none)
+    /// and its debits.
+    pub fn of_month(lines: &MonthLines, last: i64, vd: &[i128]) -> Credits {
+        let (b, c) = (settled_to(last, lines.month), cycle_month(lines.month));
         let ons = i128::from(lines.ons);
         let vmst: Vec<i128> = lines.agents.iter().map(vmst).collect();
-        let vmpa: Vec<i128> = lines.agents.iter().map(|agent| vmpa(agent.pa.into(), c)).collect();
+        let vmpa: Vec<i128> = lines.agents.iter().map(|agent| vmpa(agent.pa.into(), b, c)).collect();
         let own: Vec<i128> =
             (0..lines.agents.len()).map(|i| vmst[i] + vmpa[i] + i128::from(lines.agents[i].ret)).collect();
         // Item 3.2.1.3.1: what ONS is due leaves the balance.

@@ -37,7 +37,7 @@ pub fn close(
     if let Some(refusal) = refusals::closing(&ledger, &credits, lengths, lines) {
         return (ledger, Err(refusal));
     }
-    let amounts = Amounts::of_month(lines, &credits);
+    let amounts = Amounts::of_month(lines, ledger.month, &credits);
     for (held, &credit) in held.iter_mut().zip(&amounts.charges.held) {
         *held = i64::try_from(credit).expect("a held credit grows by no more than a month's amounts");
     }

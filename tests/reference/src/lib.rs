@@ -1,9 +1,9 @@
 //! The settlement of the basic grid, worked out once more for the tests to compare the product with.
 //!
-//! Everything here follows the specification ("Rateio: monthly settlement of the basic grid"), its change request Q-3
-//! and the readings decided for their open points, and neither the product's definitions nor its code. Amounts are
-//! `i128`, so that no product of two of them needs two words, and nothing is arranged for speed beyond what the tests
-//! need.
+//! Everything here follows the specification ("Rateio: monthly settlement of the basic grid"), its change requests Q-3,
+//! and the readings decided for their open points, and neither the product's definitions nor its code.
+//! Amounts are `i128`, so that no product of two of them needs two words, and nothing is arranged for speed beyond what
+//! the tests need.
 //!
 //! | module | what it holds |
 //! |---|---|

@@ -64,6 +64,38 @@ pub fn next_month(month: i64) -> i64 {
     }
 }
 
+/// The month so many months later, or earlier where `by` is below 0.
+pub fn moved(month: i64, by: i64) -> i64 {
+    let months = month / 100 * 12 + month % 100 - 1 + by;
+    months / 12 * 100 + months % 12 + 1
+}
+
+/// A month to close after this one: mostly the next, often one with months skipped before it, in the cycle or beyond, and
+/// at times any, also one that has gone by.
+pub fn month_after(rng: &mut Rng, last: i64) -> i64 {
+    match rng.below(20) {
+        0..=2 => any_month(rng),
+        3..=6 => moved(last, rng.between(2, 12)),
+        7 => moved(last, rng.between(13, 36)),
+        _ => next_month(last),
+    }
+}
+
+/// A last closed month that this one can come after: none, the month before, one of the three years before, or any.
+pub fn last_before(rng: &mut Rng, month: i64) -> i64 {
+    let last = match rng.below(4) {
+        0 => 0,
+        1 => moved(month, -1),
+        2 => moved(month, -rng.between(2, 36)),
+        _ => any_month(rng),
+    };
+    if (200_001..month).contains(&last) {
+        last
+    } else {
+        0
+    }
+}
+
 /// Every month that exists, in the calendar's order.
 pub fn calendar() -> impl Iterator<Item = i64> {
     std::iter::successors(Some(200_001), |&month| Some(next_month(month))).take_while(|&month| month <= 209_912)

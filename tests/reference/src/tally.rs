@@ -27,7 +27,7 @@ impl Tally {
         if let Some(refusal) = refusals::closing(&counts, &self.credits, lengths, lines) {
             return Err(refusal);
         }
-        let amounts = Amounts::of_month(lines, &self.credits);
+        let amounts = Amounts::of_month(lines, self.month, &self.credits);
         self.credits = amounts.charges.held.clone();
         self.month = lines.month;
         Ok(amounts)

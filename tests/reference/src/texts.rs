@@ -185,7 +185,7 @@ pub fn run_input(rng: &mut Rng, most: Counts) -> Vec<u8> {
             months::month(rng, style, counts)
         };
         lines.month = date;
-        date = if rng.chance(85) { months::next_month(date) } else { months::any_month(rng) };
+        date = months::month_after(rng, date);
         let fault = rng.pick(&faults::all());
         if rng.chance(20) && fault.fits(&lines) {
             let line = rng.pick(&fault.lines(&lines));

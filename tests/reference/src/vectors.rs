@@ -13,7 +13,7 @@ use crate::table::is_table;
 /// A file's name and the comparison of one of its lines.
 pub type VectorFile = (&'static str, fn(&Json) -> Result<(), String>);
 
-pub const VECTOR_FILES: [VectorFile; 7] = [
+pub const VECTOR_FILES: [VectorFile; 8] = [
     ("shares.jsonl", share),
     ("openings.jsonl", opening),
     ("closings.jsonl", closing),
@@ -21,6 +21,7 @@ pub const VECTOR_FILES: [VectorFile; 7] = [
     ("runs.jsonl", run),
     ("runs-Q3.jsonl", run_in_full),
     ("runs-Q4.jsonl", run_in_full),
+    ("runs-Q8.jsonl", run_in_full),
 ];
 
 /// Compares every line of a file's text; the answer is their count.

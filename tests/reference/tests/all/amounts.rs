@@ -88,7 +88,7 @@ fn twelve_adjustments_total_the_year() {
     let mut adjustments: Vec<i128> = (-30..=30).collect();
     adjustments.extend((0..200).map(|_| i128::from(rng.between(-100_000_000_000, 100_000_000_000))));
     for pa in adjustments {
-        let months: Vec<i128> = (1..=12).map(|c| vmpa(pa, c)).collect();
+        let months: Vec<i128> = (1..=12).map(|c| vmpa(pa, c - 1, c)).collect();
         assert_eq!(total(&months), pa);
         assert!(months.iter().all(|month| (month * 12 - pa).abs() < 12));
     }
@@ -110,9 +110,11 @@ fn tariff_year_by_the_calendar() {
 
 #[test]
 fn small_adjustments_tell_the_cycle_month() {
-    let due = |c: i64| (1..12).map(|pa| vmpa(pa, c)).collect::<Vec<i128>>();
+    let due = |c: i64| (1..12).map(|pa| vmpa(pa, c - 1, c)).collect::<Vec<i128>>();
     for c in 1..=12 {
         assert!((1..c).all(|other| due(other) != due(c)), "{}", c);
+        // And twelve cents how many months are paid.
+        assert!((0..c).all(|b| vmpa(12, b, c) == i128::from(c - b)), "{}", c);
     }
 }
 
@@ -124,7 +126,8 @@ fn totals_of_a_month() {
         let (style, counts) = (rng.pick(&STYLES), counts_up_to(&mut rng, SMALL));
         let lines = sound_month(&mut rng, style, counts);
         let held: Vec<i128> = months::held_credits(&mut rng, counts.users).into_iter().map(i128::from).collect();
-        let Amounts { charges, credits } = Amounts::of_month(&lines, &held);
+        let last = months::last_before(&mut rng, lines.month);
+        let Amounts { charges, credits } = Amounts::of_month(&lines, last, &held);
         let pv: i128 = lines.agents.iter().map(|agent| i128::from(agent.pv)).sum();
         assert_eq!(total(&charges.cpv), pv);
         assert_eq!(total(&credits.vc), total(&charges.vd));

@@ -3,7 +3,7 @@
 
 use rateio_reference::amounts::Amounts;
 use rateio_reference::charges::{overrun, use_charge, Charges};
-use rateio_reference::credits::{cycle_month, vmpa};
+use rateio_reference::credits::{cycle_month, settled_to, vmpa};
 use rateio_reference::ledger::{close, open, Ledger};
 use rateio_reference::lines::{Agent, MonthLines, Point, User, CONSUMER, DISTRIBUTOR, GENERATOR};
 use rateio_reference::program::{check_run, settle};
@@ -107,15 +107,20 @@ fn case_g_one_kilowatt_over() {
     assert_eq!(overrun(CONSUMER, &peak(5432, 1000, 1051)), 1630);
 }
 
+/// VMPA of a month before which none is closed.
+fn first_vmpa(pa: i128, month: i64) -> i128 {
+    vmpa(pa, settled_to(0, month), cycle_month(month))
+}
+
 #[test]
 fn case_h_yearly_adjustment() {
     assert_eq!((cycle_month(202_407), cycle_month(202_406)), (1, 12));
-    assert_eq!((vmpa(25, 1), vmpa(25, 12)), (2, 3));
+    assert_eq!((first_vmpa(25, 202_407), first_vmpa(25, 202_406)), (2, 3));
 }
 
 #[test]
 fn case_i_negative_adjustment() {
-    assert_eq!((vmpa(-1, cycle_month(202_407)), vmpa(-1, cycle_month(202_408))), (-1, 0));
+    assert_eq!((first_vmpa(-1, 202_407), first_vmpa(-1, 202_408)), (-1, 0));
 }
 
 #[test]

@@ -181,7 +181,7 @@ fn next_closing(rng: &mut Rng, counts: Counts, last: i64) -> (MonthLines, Length
     let style = rng.pick(&STYLES);
     let counts = if rng.chance(95) { counts } else { counts_up_to(rng, Counts { users: 6, agents: 4, points: 9 }) };
     let mut lines = sound_month(rng, style, counts);
-    lines.month = if rng.chance(85) { months::next_month(last) } else { months::any_month(rng) };
+    lines.month = months::month_after(rng, last);
     let fault = rng.pick(&faults::all());
     if rng.chance(25) && fault.fits(&lines) {
         let line = rng.pick(&fault.lines(&lines));

@@ -9,5 +9,6 @@ mod files;
 mod line_ends;
 mod runs;
 mod sisters;
+mod skipped;
 mod tables;
 mod vectors;

@@ -65,12 +65,13 @@ fn neighbours_receive_together_what_they_receive_apart() {
     assert!(zeros > 1_000, "weights of 0 have to come up");
 }
 
-/// A seeded month, sound before any credit is held, and credits.
-fn month(rng: &mut Rng) -> (MonthLines, Vec<i128>) {
+/// A seeded month, sound before any credit is held, the last closed month before it, and credits.
+fn month(rng: &mut Rng) -> (MonthLines, i64, Vec<i128>) {
     let (style, counts) = (rng.pick(&STYLES), counts_up_to(rng, SMALL));
     let lines = sound_month(rng, style, counts);
+    let last = months::last_before(rng, lines.month);
     let held = months::held_credits(rng, counts.users).into_iter().map(i128::from).collect();
-    (lines, held)
+    (lines, last, held)
 }
 
 #[test]
@@ -78,10 +79,10 @@ fn sister_agents_receive_the_same() {
     let mut rng = Rng::new(14);
     let (mut same, mut other) = (0, 0);
     for _ in 0..2_000 {
-        let (lines, held) = month(&mut rng);
-        let apart = Amounts::of_month(&lines, &held);
+        let (lines, last, held) = month(&mut rng);
+        let apart = Amounts::of_month(&lines, last, &held);
         for k in 0..lines.agents.len() - 1 {
-            let one = Amounts::of_month(&agents_as_one(&lines, k), &held);
+            let one = Amounts::of_month(&agents_as_one(&lines, k), last, &held);
             assert_eq!(one.charges, apart.charges);
             // The twelfths of two yearly adjustments need not be those of their sum: then the balance is another.
             let twelfths = one.credits.vmpa == joined(&apart.credits.vmpa, k);
@@ -101,10 +102,10 @@ fn sister_users_are_compensated_the_same() {
     let mut rng = Rng::new(15);
     let (mut same, mut other) = (0, 0);
     for _ in 0..2_000 {
-        let (lines, held) = month(&mut rng);
-        let apart = Amounts::of_month(&lines, &held).charges;
+        let (lines, last, held) = month(&mut rng);
+        let apart = Amounts::of_month(&lines, last, &held).charges;
         for k in 0..lines.users.len() - 1 {
-            let one = Amounts::of_month(&users_as_one(&lines, k), &joined(&held, k)).charges;
+            let one = Amounts::of_month(&users_as_one(&lines, k), last, &joined(&held, k)).charges;
             assert_eq!(one.eust, joined(&apart.eust, k));
             assert_eq!(one.cpv, joined(&apart.cpv, k));
             // A debit need not be the sum: it is cut at 0 for each user, and a kind has its allowance.

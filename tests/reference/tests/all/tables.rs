@@ -70,7 +70,7 @@ fn tables_of_months() {
     for _ in 0..1_000 {
         let (style, counts) = (rng.pick(&STYLES), counts_up_to(&mut rng, Counts { users: 12, agents: 9, points: 30 }));
         let lines = sound_month(&mut rng, style, counts);
-        let amounts = Amounts::of_month(&lines, &vec![0; counts.users]);
+        let amounts = Amounts::of_month(&lines, 0, &vec![0; counts.users]);
         let (vc, vd) = (&amounts.credits.vc, &amounts.charges.vd);
         assert_eq!(is_table(vc, vd, &some_table(vc, vd)), Ok(()));
         assert_eq!(is_table(vc, vd, &random_table(vc, vd, &mut rng)), Ok(()));
@@ -125,7 +125,7 @@ fn the_largest_tables() {
     assert_eq!(is_table(&vc, &vd, &some_table(&vc, &vd)), Ok(()));
     for style in [Style::Ordinary, Style::Extreme] {
         let lines = sound_month(&mut rng, style, Counts { users, agents: payees - 1, points: 1024 });
-        let amounts = Amounts::of_month(&lines, &vec![0; users]);
+        let amounts = Amounts::of_month(&lines, 0, &vec![0; users]);
         let (vc, vd) = (&amounts.credits.vc, &amounts.charges.vd);
         assert_eq!(is_table(vc, vd, &some_table(vc, vd)), Ok(()));
     }

@@ -47,6 +47,11 @@ fn runs_after_request_4() {
 }
 
 #[test]
+fn runs_after_request_8() {
+    file("runs-Q8.jsonl", 40);
+}
+
+#[test]
 fn json_is_read_as_written() {
     let read = json::parse(r#" {"a": [1, -20 ,null], "text":"x\n\"\\\u00e2\u0000é" , "none":[],"empty":{}} "#);
     let record = read.expect("sound JSON");

@@ -1,4 +1,4 @@
--- A possible month is above 0, where the remainder is mm.
+-- An arm a case, and one for any other number.
 use Prim.Native.Nat.{ℕ, suc, _-_, _^_}
 use mathlib.Core.Path.{_≡_, refl, sym, ap, _∙_}
 use mathlib.Core.Logic.{_≢_}
@@ -6,28 +6,16 @@ use mathlib.Core.Bool.{Bool, true, false}
 use borrow.Author.Needs.{needs}
 use borrow.Author.Tests.{ne-eqb}
 use lib.Dec.{ltb}
-use lib.IntN.{ℤ, pos, negsuc}
-use lib.Signed.{quotZ, remZ, _≤ℤ_}
+use lib.IntN.{pos, negsuc}
+use lib.Signed.{remZ}
 use mir.Syntax.{w64}
-use mir.Val.{SFits, sel, toZ, ofZ}
+use mir.Val.{sel, toZ, ofZ}
 use mir.Facts.{toZ-ofZ}
-use Rattle.ints.specs.Bridge.{za, above#}
-use Rattle.ints.specs.Words.{quot-small, rem-small, rem-floor}
 use Rattle.rules.specs.Calendar.{monthOfYear, inCycle, cycleMonth}
 use Rattle.rules.proofs.Fits.{Possible, possible}
+use Rattle.credits.proofs.Months.{quot-fits, rem-fits, mm}
 use Rattle.credits.proofs.cycle.cycle_month.Statement.{statement}
 use Rattle.credits.proofs.cycle.cycle_month.Tie as tie
-
-module _ {m : ℤ} (p : Possible m) where
-  quot-fits : SFits w64 (quotZ m (pos 100))
-  quot-fits = let y = p .year in omega (za, quot-small m (pos 100))
-
-  rem-fits : SFits w64 (remZ m (pos 100))
-  rem-fits = let y = p .year in omega (za, rem-small m (pos 100))
-
-  mm : remZ m (pos 100) ≡ monthOfYear m
-  unfolding monthOfYear
-  mm = let z : pos 0 ≤ℤ m = omega (za, above# (p .year .above)) in rem-floor m 100 z
 
 there : (s : tie.Start) → Possible (s .args .month)
 there s = possible (s .args .month) (s .pre)
