@@ -26,6 +26,7 @@ use Rattle.rules.proofs.MonthLine as L
 use Rattle.rules.proofs.MonthLine.Laws as L′
 use Rattle.rules.proofs.Point as P
 use Rattle.rules.proofs.Point.Laws as P′
+use Rattle.records.proofs.Widths.{agentWidth, userWidth, Ra, Ru}
 use Rattle.ledger.proofs.close as close
 use Rattle.ledger.proofs.Placing.{Lies}
 
@@ -94,8 +95,8 @@ pub record ClosingFits (c : Closing) : Type 0 where
   pub ledger : LedgerFits (c .ledger)
   pub held : Slice i64 Word (c .held)
   pub line : MonthLineFits (c .line)
-  pub agents : Slice (Array i64 7) (Line 7) (c .agents)
-  pub users : Slice (Array i64 3) (Line 3) (c .users)
+  pub agents : Slice Ra (Line agentWidth) (c .agents)
+  pub users : Slice Ru (Line userWidth) (c .users)
   pub points : Slice P.the-row PointFits (c .points)
   pub cells : Slice i64 Word (c .cells)
   pub work : Slice u64 (Fits w64) (c .work)

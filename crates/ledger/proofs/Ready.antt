@@ -37,6 +37,7 @@ use Rattle.rules.proofs.MonthLine as L
 use Rattle.rules.proofs.MonthLine.Laws as L′
 use Rattle.rules.proofs.Point as P
 use Rattle.rules.proofs.Point.Laws as P′
+use Rattle.records.proofs.Widths.{agentWidth, userWidth, Ra, Ru}
 use Rattle.ledger.proofs.open as open'
 use Rattle.ledger.proofs.close as close
 use Rattle.ledger.proofs.Machine.{Open-ready, Close-ready}
@@ -169,10 +170,10 @@ module _ {M : Type 1} (𝓤 : URA M) (H : Heap 𝓤) (𝓜 : Model 𝓤 H) (𝓖
       let Q₇ : Pr = ⟦ MutSlice (named 4) (κ 4 tt) i64 .own (x₇ .1) (slice-vals (x₇ .1)) ⟧ ∗ Q₈ in
       ∥∥₁-elim (readable P.the-row tt point (points (c .points) (f .points)) (named 3) (κ 3 tt) Q₇ K (x₇ .0) (x₇ .3)) ∥∥₁-prop (λ x₆.
       let Q₆ : Pr = ⟦ ShrSlice (named 3) (κ 3 tt) P.the-row .own (x₆ .1) (slice-vals (x₆ .1)) ⟧ ∗ Q₇ in
-      ∥∥₁-elim (readable (Array i64 3) tt (row 3) (lines 3 (c .users) (f .users)) (named 2) (κ 2 tt) Q₆ K (x₆ .0) (x₆ .3)) ∥∥₁-prop (λ x₅.
-      let Q₅ : Pr = ⟦ ShrSlice (named 2) (κ 2 tt) (Array i64 3) .own (x₅ .1) (slice-vals (x₅ .1)) ⟧ ∗ Q₆ in
-      ∥∥₁-elim (readable (Array i64 7) tt (row 7) (lines 7 (c .agents) (f .agents)) (named 1) (κ 1 tt) Q₅ K (x₅ .0) (x₅ .3)) ∥∥₁-prop (λ x₄.
-      let Q₄ : Pr = ⟦ ShrSlice (named 1) (κ 1 tt) (Array i64 7) .own (x₄ .1) (slice-vals (x₄ .1)) ⟧ ∗ Q₅ in
+      ∥∥₁-elim (readable Ru tt (row userWidth) (lines userWidth (c .users) (f .users)) (named 2) (κ 2 tt) Q₆ K (x₆ .0) (x₆ .3)) ∥∥₁-prop (λ x₅.
+      let Q₅ : Pr = ⟦ ShrSlice (named 2) (κ 2 tt) Ru .own (x₅ .1) (slice-vals (x₅ .1)) ⟧ ∗ Q₆ in
+      ∥∥₁-elim (readable Ra tt (row agentWidth) (lines agentWidth (c .agents) (f .agents)) (named 1) (κ 1 tt) Q₅ K (x₅ .0) (x₅ .3)) ∥∥₁-prop (λ x₄.
+      let Q₄ : Pr = ⟦ ShrSlice (named 1) (κ 1 tt) Ra .own (x₄ .1) (slice-vals (x₄ .1)) ⟧ ∗ Q₅ in
       let line = LL.vals L.the-type L′.the-laws (c .line) in
       let Q₃ : Pr = ⟦ L.the-row .own (c .line) line ⟧ ∗ Q₄ in
       let s₃ : x₄ .0 ⊨ Q₃ ∗ K =

@@ -23,7 +23,6 @@ use prog.Model.{Model}
 use contract.Running.{GhostRules, Running}
 use denote.RattleType.{RattleType}
 use denote.Memory.{mem}
-use denote.Array.{Array}
 use denote.Builtin.{u64, i64}
 use denote.Ref.{now}
 use denote.Slice.{Room}
@@ -36,6 +35,7 @@ use Rattle.rules.specs.Demand.{Lent}
 use Rattle.rules.specs.Lines.{pointOf}
 use Rattle.rules.specs.July.{julyLine, julyAgents, julyUsers, julyPoints, lines, points}
 use Rattle.rules.proofs.Point as P
+use Rattle.records.proofs.Widths.{agentWidth, userWidth, Ra, Ru}
 use Rattle.ledger.proofs.Demand.{creditsLeft}
 use Rattle.ledger.proofs.Machine.{Open-ran, open-runs, opened, Caller}
 use Rattle.ledger.proofs.Fitting.{Every, Word, Line, PointFits, Slice, Closing, handed, ClosingFits}
@@ -191,8 +191,8 @@ july-fits =
       ledger = record { users = fits-lit tt; agents = fits-lit tt; month = sfits-lit tt };
       held = record { each-fits = fitting (0 ∷ 0 ∷ 88 ∷ []) tt; room = room i64 3 tt tt };
       line = record { month = sfits-lit tt; ons = sfits-lit tt };
-      agents = record { each-fits = lines-fit 7 julyAgents tt; room = room (Array i64 7) 2 tt tt };
-      users = record { each-fits = lines-fit 3 julyUsers tt; room = room (Array i64 3) 2 tt tt };
+      agents = record { each-fits = lines-fit agentWidth julyAgents tt; room = room Ra 2 tt tt };
+      users = record { each-fits = lines-fit userWidth julyUsers tt; room = room Ru 2 tt tt };
       points = record { each-fits = points-fit (lines julyPoints) (lines-fit 9 julyPoints tt); room = room P.the-row 2 tt tt };
       cells = record { each-fits = fitting (replicate 7 9) tt; room = room i64 7 tt tt };
       work = record { each-fits = counts (replicate 32 0) tt; room = room u64 32 tt tt };

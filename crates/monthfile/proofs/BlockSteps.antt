@@ -1,5 +1,5 @@
 -- Reading's verdict (format's `scan`) over names, and after the last block. Assumes nothing.
-use Prim.Native.Nat.{ℕ, _+_, _≤_, _<_, min}
+use Prim.Native.Nat.{ℕ, _+_, _-_, _≤_, _<_, min}
 use mathlib.Core.Path.{_≡_, refl, ap, sym, _∙_, subst}
 use mathlib.Core.List.{List, [], _∷_, _++_, map}
 use native.Mathlib.Omega.{arith}
@@ -101,9 +101,9 @@ module _ (t : List ℕ) (p : ℕ) {r : Scanned} where
 module _ (t : List ℕ) (i a u p : ℕ) {m ra ru rp : Scanned} where
   pub blocks-passed :
       Passes t i (atBlock (entries (map bytes month)) one 1) at m
-      → Continues t m (atBlock (entries (map bytes agents)) (upTo a) 6) at ra
-      → Continues t ra (atBlock (entries (map bytes users)) (upTo u) 2) at ru
-      → Continues t ru (atBlock (entries (map bytes points)) (upTo p) 8) at rp
+      → Continues t m (atBlock (entries (map bytes agents)) (upTo a) (length agents - 1)) at ra
+      → Continues t ra (atBlock (entries (map bytes users)) (upTo u) (length users - 1)) at ru
+      → Continues t ru (atBlock (entries (map bytes points)) (upTo p) (length points - 1)) at rp
       → verdict t (start (slices a u p)) i ≡ andThen rp (λ n. verdict t (at []) n)
   unfolding format
   blocks-passed x y z w =

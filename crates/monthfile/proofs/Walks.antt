@@ -32,7 +32,6 @@ use denote.Ref.{RefT, now}
 use denote.Signature.{Slot, plain, Signature, typeAt, typesAt}
 use denote.Slice.{sliceTy, sliceVal, ShrSlice, finally, shr-slice-copy}
 use denote.Plain.{uint-makes}
-use denote.Array.{Array}
 use denote.Builtin.{usize, i64, ArrayOf}
 use denote.Steps.{peeks, heard, owned}
 use denote.Triple.Statement.{Contract, Triple}
@@ -41,23 +40,18 @@ use denote.Triple.Clauses.{Clauses, Ended, Lasts, atExit, lasts, closing}
 use denote.Triple.Entry.{Args, Vals, onEntry}
 use denote.Triple.Spec.{tripleOf}
 use Rattle.rules.proofs.Point as P
+use Rattle.records.proofs.Widths.{agentWidth, userWidth, Ra, Ru}
 use Rattle.records.proofs.Walking.{locals, contents, free-all, stars, seps, items, returned}
 
--- ---- an agent line, a user line and a point, and as a signature has them
-abbrev pub Ra : RattleType
-Ra = Array i64 7
-
-abbrev pub Ru : RattleType
-Ru = Array i64 3
-
+-- ---- a point, and an agent line, a user line and a point as a signature has them
 abbrev pub Rp : RattleType
 Rp = P.the-row
 
 abbrev pub slotA : {n : ℕ} → Slot n
-slotA = ArrayOf (plain (λ _. i64)) (λ _. tt) 7
+slotA = ArrayOf (plain (λ _. i64)) (λ _. tt) agentWidth
 
 abbrev pub slotU : {n : ℕ} → Slot n
-slotU = ArrayOf (plain (λ _. i64)) (λ _. tt) 3
+slotU = ArrayOf (plain (λ _. i64)) (λ _. tt) userWidth
 
 abbrev pub slotP : {n : ℕ} → Slot n
 slotP = plain (λ _. Rp)

@@ -24,7 +24,6 @@ use types.Run.{look, init, stop, fld, from, load, of-opd, assigns, land, returns
 use sound.WpLaws.{FmC, fmOf, WpFn-mono}
 use denote.RattleType.{RattleType, flat, mirs}
 use denote.Laws.{Is, shows, Typed}
-use denote.Array.{Array}
 use denote.Plain.{uint-makes}
 use denote.Builtin.{u64, usize, i64}
 use denote.Ref.{RefT, now}
@@ -49,6 +48,7 @@ use Rattle.rules.proofs.MonthLine.Laws as L′
 use Rattle.rules.proofs.Outcome as O
 use Rattle.rules.proofs.Outcome.Laws as O′
 use Rattle.records.specs.Taking.{Takes}
+use Rattle.records.proofs.Widths.{Ra, Ru}
 use Rattle.records.proofs.Lines.{Rls, lines-typed, lines-makes}
 use Rattle.records.proofs.Walking.{bare, locals, free-all, splits, joins, stars, fsplits, fjoins, seps, items}
 use Rattle.records.proofs.Entering.{Blocks, env, Passed, fulls, enters, TypedAt, typed-at, Spelleds, all-spelled, by-value, shared, mutable}
@@ -79,7 +79,7 @@ pars = length (close.signature .params)
 -- the parameters' types
 abbrev params : (κs : Lfts lfts) → Spelleds (typesAt (close.signature .params) κs)
 params κs = all-spelled (by-value G.the-type G′.the-laws ∷ mutable (named 0) (lftAt lfts 0 tt κs) i64 ∷ by-value L.the-type L′.the-laws
-    ∷ shared (named 1) (lftAt lfts 1 tt κs) (Array i64 7) ∷ shared (named 2) (lftAt lfts 2 tt κs) (Array i64 3)
+    ∷ shared (named 1) (lftAt lfts 1 tt κs) Ra ∷ shared (named 2) (lftAt lfts 2 tt κs) Ru
     ∷ shared (named 3) (lftAt lfts 3 tt κs) P.the-row ∷ mutable (named 4) (lftAt lfts 4 tt κs) i64 ∷ mutable (named 5) (lftAt lfts 5 tt κs) u64 ∷ [])
 
 -- which parameter the points are, which lifetime theirs is, and how many parameters stand after them

@@ -48,6 +48,7 @@ use Rattle.rules.proofs.Ledger.Laws as G′
 use Rattle.rules.proofs.MonthLine as L
 use Rattle.rules.proofs.MonthLine.Laws as L′
 use Rattle.records.specs.Taking.{Takes}
+use Rattle.records.proofs.Widths.{Ra, Ru}
 use Rattle.records.proofs.Lines.{Rls, lines-typed, lines-makes}
 use Rattle.records.proofs.Walking.{bare, locals, free-all, splits, joins, stars, fsplits, fjoins, seps, items}
 use Rattle.records.proofs.Entering.{Blocks, env, Passed, fulls, enters, TypedAt, typed-at, Spelleds, all-spelled, by-value, shared, mutable}
@@ -80,7 +81,7 @@ pars = length (state.signature .params)
 -- the parameters' types
 abbrev params : (κs : Lfts lfts) → Spelleds (typesAt (state.signature .params) κs)
 params κs = all-spelled (by-value G.the-type G′.the-laws ∷ shared (named 0) (lftAt lfts 0 tt κs) i64 ∷ by-value L.the-type L′.the-laws
-    ∷ shared (named 1) (lftAt lfts 1 tt κs) (Array i64 7) ∷ shared (named 2) (lftAt lfts 2 tt κs) (Array i64 3)
+    ∷ shared (named 1) (lftAt lfts 1 tt κs) Ra ∷ shared (named 2) (lftAt lfts 2 tt κs) Ru
     ∷ shared (named 3) (lftAt lfts 3 tt κs) P.the-row ∷ mutable (named 4) (lftAt lfts 4 tt κs) (Array i64 2)
     ∷ mutable (named 5) (lftAt lfts 5 tt κs) (Array i64 9) ∷ mutable (named 6) (lftAt lfts 6 tt κs) (Array i64 5) ∷ [])
 

@@ -44,7 +44,8 @@ use Rattle.monthfile.specs.Reads.{asPoints}
 use Rattle.monthfile.specs.Parts.{Starts, PointsFilled, answerOf}
 use Rattle.monthfile.specs.declared.reading.Started.{Started}
 use Rattle.records.proofs.Walking.{splits, joins, fsplits, fjoins}
-use Rattle.monthfile.proofs.Walks.{Ra, Ru, Rp, slotA, slotU, slotP, fits-number, fits-slice, sliceOf, Shared, Last, none, left, finals, tokens, begins}
+use Rattle.records.proofs.Widths.{Ra, Ru}
+use Rattle.monthfile.proofs.Walks.{Rp, slotA, slotU, slotP, fits-number, fits-slice, sliceOf, Shared, Last, none, left, finals, tokens, begins}
 use Rattle.monthfile.proofs.Walks.{passed, rolls, var, part, count, new, relends, twice, number, asks, leaves}
 use Rattle.monthfile.proofs.WholeFile.{room-for, whole-read}
 use Rattle.monthfile.proofs.reading.Started as S

@@ -48,7 +48,8 @@ use Rattle.rules.specs.declared.Point.{Point}
 use Rattle.monthfile.specs.Reads.{Reads, asPoints, nextOf}
 use Rattle.monthfile.specs.declared.reading.Reading.{Reading}
 use Rattle.monthfile.specs.declared.reader.Reader.{Reader}
-use Rattle.monthfile.proofs.Walks.{Ra, Ru, Rp, slotA, slotU, slotP, fits-number, fits-slice, sliceOf, Last, none, left, begins, passed, rolls, var}
+use Rattle.records.proofs.Widths.{Ra, Ru}
+use Rattle.monthfile.proofs.Walks.{Rp, slotA, slotU, slotP, fits-number, fits-slice, sliceOf, Last, none, left, begins, passed, rolls, var}
 use Rattle.monthfile.proofs.Walks.{behind, new, relends, number, asks, leaves}
 use Rattle.monthfile.proofs.reading.Reading as O
 use Rattle.monthfile.proofs.reading.Reading.Laws as O′

@@ -4,12 +4,13 @@ use mathlib.Core.Path.{sym, _∙_}
 use native.Mathlib.Omega.{arith}
 use borrow.Author.Needs.{needs}
 use lib.ListN.{length}
+use Rattle.format.specs.Blocks as Table
 use Rattle.monthfile.proofs.ReadSteps.{Filling, filling-none, filling-more, filled-over, filled-full}
 use Rattle.monthfile.proofs.rows.agents_at.Statement.{statement}
 use Rattle.monthfile.proofs.rows.agents_at.Tie as tie
 
 abbrev Inv-loop : tie.InvT-loop
-Inv-loop text at agents₀ i₀ n₀ agents i n = Filling text at 7 agents₀ agents i n
+Inv-loop text at agents₀ i₀ n₀ agents i n = Filling text at (length Table.agents) agents₀ agents i n
 
 abbrev μ-loop : tie.MeasureT-loop
 μ-loop text at agents₀ i₀ n₀ agents i n = length agents₀ - n
