@@ -72,10 +72,11 @@ int64_t rateio_share(int64_t p, int64_t before, int64_t through, int64_t w);
  * not end there, the place is the text's length. So 0 for an empty text. RATEIO_CHECK_TOO_LONG for a text over the limit.
  *
  * A month file has four blocks, each a line of names and lines of values: one line of month,ons; then any count of lines
- * of agent,pb,pv,afs,rfs,pa,ret; of user,kind,ret; and of at,tp,tf,dp,df,mp,mf,vp,vf. Values are parted by commas, and
- * every line ends in LF or in CR LF, each for itself. A value is 1 to 18 digits with no leading zero but in 0 itself,
+ * of agent,pb,pv,afs,rfs,pa,ret; of user,kind,ret,ong; and of at,tp,tf,dp,df,mp,mf,vp,vf. Values are parted by commas,
+ * and every line ends in LF or in CR LF, each for itself. A value is 1 to 18 digits with no leading zero but in 0 itself,
  * after one minus sign if it is negative. Whether values lie in their limits is not looked at. Each byte is looked at
- * once.
+ * once. A file without the column ong, as files were before there were direct charges, comes back at the first byte after
+ * user,kind,ret.
  *
  * Where a line may end a CR is in order, so the place of a lone one is the byte after it that is not LF, or the text's
  * length; anywhere else the place is the CR's. If CRs are put before LFs that had none, RATEIO_CHECK_FILES stays, and a

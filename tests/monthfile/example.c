@@ -9,13 +9,13 @@
 
 #define NAMES_AND_MONTH "month,ons\n202407,100\n"
 #define AGENTS "agent,pb,pv,afs,rfs,pa,ret\n1,1000,0,0,0,0,4\n"
-#define USERS "user,kind,ret\n1,2,0\n"
+#define USERS "user,kind,ret,ong\n1,2,0,0\n"
 #define POINTS "at,tp,tf,dp,df,mp,mf,vp,vf\n1,1000,500,0,0,3,2,3,2\n"
 #define MONTH_FILE NAMES_AND_MONTH AGENTS USERS POINTS
 /* The same file as an office machine saves it. */
 #define OFFICE_NAMES_AND_MONTH "month,ons\r\n202407,100\r\n"
 #define OFFICE_AGENTS "agent,pb,pv,afs,rfs,pa,ret\r\n1,1000,0,0,0,0,4\r\n"
-#define OFFICE_USERS "user,kind,ret\r\n1,2,0\r\n"
+#define OFFICE_USERS "user,kind,ret,ong\r\n1,2,0,0\r\n"
 #define OFFICE_POINTS "at,tp,tf,dp,df,mp,mf,vp,vf\r\n1,1000,500,0,0,3,2,3,2\r\n"
 #define OFFICE_FILE OFFICE_NAMES_AND_MONTH OFFICE_AGENTS OFFICE_USERS OFFICE_POINTS
 
@@ -51,6 +51,8 @@ int main(void)
     look_over("-0", "month,ons\n202407,-0\n");
     look_over("leading zero", "month,ons\n0202407,100\n");
     look_over("19 digits", "month,ons\n202407,1234567890123456789\n");
+    look_over("no column ong", NAMES_AND_MONTH AGENTS "user,kind,ret\n1,2,0\n" POINTS);
+    look_over("no value of ong", NAMES_AND_MONTH AGENTS "user,kind,ret,ong\n1,2,0\n" POINTS);
     look_over("a second month line", NAMES_AND_MONTH "202408,100\n");
     look_over("a lone CR", "month,ons\r202407,100\r");
     look_over("CR CR LF", "month,ons\r\r\n202407,100\r\n");

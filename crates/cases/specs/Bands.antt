@@ -21,7 +21,7 @@ month m pv points =
     record {
       lines = monthLines (record { month = pos m; ons = pos 100 })
           (map these ((1 ∷ 1000 ∷ pv ∷ 0 ∷ 0 ∷ 0 ∷ 0 ∷ []) ∷ (2 ∷ 2000 ∷ 0 ∷ 0 ∷ 0 ∷ 0 ∷ 0 ∷ []) ∷ []))
-          (map these ((1 ∷ 1 ∷ 0 ∷ []) ∷ (2 ∷ 2 ∷ 0 ∷ []) ∷ (3 ∷ 3 ∷ 0 ∷ []) ∷ []))
+          (map these ((1 ∷ 1 ∷ 0 ∷ 0 ∷ []) ∷ (2 ∷ 2 ∷ 0 ∷ 0 ∷ []) ∷ (3 ∷ 3 ∷ 0 ∷ 0 ∷ []) ∷ []))
           (map (λ (row : List ℕ). pointOf (these row)) points);
       lengths = enough 3 2;
     }

@@ -39,7 +39,7 @@ printed = these (127 ∷ 508 ∷ 247 ∷ 988 ∷ 20 ∷ 80 ∷ [])
 
 pub record A : Type 0 where
   -- read whole, and closed on a new ledger
-  pub read-whole : reading (slices 2 2 2) (bytes input) 0 ≡ read values 184
+  pub read-whole : reading (slices 2 2 2) (bytes input) 0 ≡ read values 192
   pub lines : linesOf values ≡ july
   pub closed : judged (opened 2 2) (record { lines = july; lengths = enough 2 2 }) ≡ accepted
   -- charges

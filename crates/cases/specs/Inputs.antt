@@ -46,7 +46,7 @@ month m ret points =
       lines = record {
         line = record { month = pos m; ons = pos 0 };
         agents = agentOf (these (1 ∷ 1000 ∷ 0 ∷ 0 ∷ 0 ∷ 0 ∷ 0 ∷ [])) ∷ [];
-        users = userOf (pos 1 ∷ pos 2 ∷ ret ∷ []) ∷ userOf (these (2 ∷ 2 ∷ 100 ∷ [])) ∷ [];
+        users = userOf (pos 1 ∷ pos 2 ∷ ret ∷ pos 0 ∷ []) ∷ userOf (these (2 ∷ 2 ∷ 100 ∷ 0 ∷ [])) ∷ [];
         points = points;
       };
       lengths = enough 2 1;

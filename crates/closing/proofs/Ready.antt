@@ -62,13 +62,15 @@ module _ (g : Ledger) (held cells : List ℤ) (work : List ℕ) (line : MonthLin
     pub writable :
         (bills : Bills)
         → Billed (length users) (stateOf g held) l bills
-        → Writable bills line agents (take (length users) held) (take ((length agents + 1) * length users) cells) work g (stateOf g held) short l
+        → Writable bills line agents (take (length users) held) (take ((length agents + 1) * length users) cells) work g users (stateOf g held)
+        short l
     writable bills b = record {
       accepts = e;
       one-each = length-take-le (g .users) held (room .held);
       last-is = refl;
       line-is = refl;
       agents-are = refl;
+      users-are = refl;
       bills-are = rw credit-count b;
       held-count = credit-count ∙ user-count;
       cells-count = rw credit-count (length-take-le _ cells cells-reach);

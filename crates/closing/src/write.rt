@@ -9,6 +9,7 @@ use charges::month::Bills;
 use rules::AgentLine;
 use rules::Ledger;
 use rules::MonthLine;
+use rules::UserLine;
 
 // Copies every entry.
 fn copy(from: &[i64], to: &mut [i64])
@@ -23,8 +24,8 @@ fn copy(from: &[i64], to: &mut [i64])
     }
 }
 
-// Writes the new held credits and the table. `held` has one entry for each user, `cells` one for each payee and user; which broken
-// cells take the odd cents is free within paper 01, and so is what the work slice holds afterwards.
+// Writes the new held credits and the table, the direct charges in its last row. `held` has one entry for each user, `cells` one for each
+// payee and user; which broken cells take the odd cents is free within paper 01, and so is what the work slice holds afterwards.
 pub fn write(
     bills: Bills,
     line: MonthLine,
@@ -33,11 +34,12 @@ pub fn write(
     cells: &mut [i64],
     work: &mut [u64],
     ledger: Ledger,
+    users: &[UserLine],
 )
     requires { ⌜ ((st : State) × (short : Verdict) × (l : Lines)
-        × Writable bills line (now agents) (now held) (now cells) (now work) ledger st short l) ⌝ }
+        × Writable bills line (now agents) (now held) (now cells) (now work) ledger (now users) st short l) ⌝ }
     ensures { λ _. ⌜ ((st : State) (short : Verdict) (l : Lines)
-        → Writable bills line (now (agents .entry)) (now (held .entry)) (now (cells .entry)) (now (work .entry)) ledger st short l
+        → Writable bills line (now (agents .entry)) (now (held .entry)) (now (cells .entry)) (now (work .entry)) ledger (now (users .entry)) st short l
         → Written st l (now (work .entry)) (now (held .exit)) (now (cells .exit)) (now (work .exit))) ⌝ }
 {
     let n = held.len();
@@ -48,5 +50,6 @@ pub fn write(
     let mut vc = [0i64; 257];
     credits::payees::vcs(total, ledger.month, line, agents, &mut vc[..m]);
     cells::fill(&vc[..m], &debits[..n], cells, work);
+    charges::direct::add(users, cells);
     copy(&credits[..n], held);
 }

@@ -18,7 +18,7 @@ pub writes-a : fileText allLF values ≡ bytes input
 unfolding more line linesText blocksText shown
 writes-a = refl
 
-pub reads-a : reading (slices 2 2 2) (bytes input) 0 ≡ accepted values 184
+pub reads-a : reading (slices 2 2 2) (bytes input) 0 ≡ accepted values 192
 unfolding reading scanAt scan readBlocks readLines readLine readValue readDigits format more line inValue enter step
 reads-a = refl
 
@@ -29,7 +29,7 @@ check s = checkOf (bytes s)
 -- accepted: one file, two on end, and a file of one month line and no others
 accepts :
     map check
-    (input ∷ (input ++ input) ∷ "month,ons\n-1,0\nagent,pb,pv,afs,rfs,pa,ret\nuser,kind,ret\nat,tp,tf,dp,df,mp,mf,vp,vf\n" ∷ [])
+    (input ∷ (input ++ input) ∷ "month,ons\n-1,0\nagent,pb,pv,afs,rfs,pa,ret\nuser,kind,ret,ong\nat,tp,tf,dp,df,mp,mf,vp,vf\n" ∷ [])
     ≡ negsuc 0 ∷ negsuc 0 ∷ negsuc 0 ∷ []
 unfolding checkOf judge onward format more line inValue enter step
 accepts = refl
@@ -54,14 +54,14 @@ abbrev office : String
 office =
     "month,ons\r\n202407,100\r\n"
     ++ "agent,pb,pv,afs,rfs,pa,ret\r\n1,1000,0,0,0,0,4\r\n2,2000,30,0,0,25,0\r\n"
-    ++ "user,kind,ret\r\n1,2,0\r\n2,3,0\r\n"
+    ++ "user,kind,ret,ong\r\n1,2,0,0\r\n2,3,0,0\r\n"
     ++ "at,tp,tf,dp,df,mp,mf,vp,vf\r\n1,1000,500,0,0,3,2,3,2\r\n2,2000,0,50,0,16,0,16,0\r\n"
 
 abbrev mixed : String
 mixed =
     "month,ons\r\n202407,100\n"
     ++ "agent,pb,pv,afs,rfs,pa,ret\n1,1000,0,0,0,0,4\r\n2,2000,30,0,0,25,0\n"
-    ++ "user,kind,ret\n1,2,0\n2,3,0\n"
+    ++ "user,kind,ret,ong\n1,2,0,0\n2,3,0,0\n"
     ++ "at,tp,tf,dp,df,mp,mf,vp,vf\n1,1000,500,0,0,3,2,3,2\n2,2000,0,50,0,16,0,16,0\n"
 
 writes-mixed : fileText (CRLF ∷ LF ∷ LF ∷ CRLF ∷ []) values ≡ bytes mixed
@@ -69,8 +69,8 @@ unfolding more line linesText blocksText shown
 writes-mixed = refl
 
 reads-office :
-    reading (slices 2 2 2) (bytes (office ++ mixed)) 0 ∷ reading (slices 2 2 2) (bytes (office ++ mixed)) 195 ∷ []
-    ≡ accepted values 195 ∷ accepted values 381 ∷ []
+    reading (slices 2 2 2) (bytes (office ++ mixed)) 0 ∷ reading (slices 2 2 2) (bytes (office ++ mixed)) 203 ∷ []
+    ≡ accepted values 203 ∷ accepted values 397 ∷ []
 unfolding reading scanAt scan readBlocks readLines readLine readValue readDigits format more line inValue enter step
 reads-office = refl
 
@@ -92,16 +92,16 @@ stray-crs :
     ∷ (input ++ "\r\n")
     ∷ (input ++ "\rmonth")
     ∷ [])
-    ≡ pos 3 ∷ pos 11 ∷ pos 12 ∷ pos 13 ∷ pos 10 ∷ pos 184 ∷ pos 184 ∷ []
+    ≡ pos 3 ∷ pos 11 ∷ pos 12 ∷ pos 13 ∷ pos 10 ∷ pos 192 ∷ pos 192 ∷ []
 unfolding checkOf judge onward format more line inValue enter step
 stray-crs = refl
 
 -- a CR is no line end before the `m` of a further file, nor at the text's end
 abbrev bare : String
-bare = "month,ons\n1,1\nagent,pb,pv,afs,rfs,pa,ret\nuser,kind,ret\nat,tp,tf,dp,df,mp,mf,vp,vf"
+bare = "month,ons\n1,1\nagent,pb,pv,afs,rfs,pa,ret\nuser,kind,ret,ong\nat,tp,tf,dp,df,mp,mf,vp,vf"
 
 no-line-end : map check ((bare ++ "\rmonth") ∷ (bare ++ "\r") ∷ (bare ++ "\r\n") ∷ (bare ++ "\r\nmonth") ∷ [])
-    ≡ pos 82 ∷ pos 82 ∷ negsuc 0 ∷ pos 88 ∷ []
+    ≡ pos 86 ∷ pos 86 ∷ negsuc 0 ∷ pos 92 ∷ []
 unfolding checkOf judge onward format more line inValue enter step
 no-line-end = refl
 
@@ -109,12 +109,12 @@ no-line-end = refl
 wrong-ends :
     map check
     (""
-    ∷ "month,ons\n1,1\nagent,pb,pv,afs,rfs,pa,ret\nuser,kind,ret\nat,tp,tf,dp,df,mp,mf,vp,vf"
+    ∷ "month,ons\n1,1\nagent,pb,pv,afs,rfs,pa,ret\nuser,kind,ret,ong\nat,tp,tf,dp,df,mp,mf,vp,vf"
     ∷ (input ++ "1")
     ∷ (input ++ "\n")
     ∷ (input ++ "month")
     ∷ [])
-    ≡ pos 0 ∷ pos 81 ∷ pos 185 ∷ pos 184 ∷ pos 189 ∷ []
+    ≡ pos 0 ∷ pos 85 ∷ pos 193 ∷ pos 192 ∷ pos 197 ∷ []
 unfolding checkOf judge onward format more line inValue enter step
 wrong-ends = refl
 
@@ -123,14 +123,14 @@ abbrev at : ℕ → ℕ → ℕ → ℕ → ReadingAnswer
 at a u p from = reading (slices a u p) (bytes (input ++ input)) from
 
 -- one file after the other; at and past the end 11 at the text's length; in the middle of a file 11 there
-on-end : at 2 2 2 0 ∷ at 2 2 2 184 ∷ at 2 2 2 368 ∷ at 2 2 2 1000 ∷ at 2 2 2 1 ∷ []
-    ≡ accepted values 184 ∷ accepted values 368 ∷ refused 11 368 ∷ refused 11 368 ∷ refused 11 1 ∷ []
+on-end : at 2 2 2 0 ∷ at 2 2 2 192 ∷ at 2 2 2 384 ∷ at 2 2 2 1000 ∷ at 2 2 2 1 ∷ []
+    ≡ accepted values 192 ∷ accepted values 384 ∷ refused 11 384 ∷ refused 11 384 ∷ refused 11 1 ∷ []
 unfolding reading scanAt scan readBlocks readLines readLine readValue readDigits format more line inValue enter step
 on-end = refl
 
 -- 12 at the first byte of the line that is one more than its slice takes; places count from the text's start
-too-many : at 1 2 2 0 ∷ at 2 1 2 0 ∷ at 2 2 1 0 ∷ at 0 2 2 0 ∷ at 2 1 2 184 ∷ []
-    ≡ refused 12 65 ∷ refused 12 104 ∷ refused 12 160 ∷ refused 12 48 ∷ refused 12 288 ∷ []
+too-many : at 1 2 2 0 ∷ at 2 1 2 0 ∷ at 2 2 1 0 ∷ at 0 2 2 0 ∷ at 2 1 2 192 ∷ []
+    ≡ refused 12 65 ∷ refused 12 110 ∷ refused 12 168 ∷ refused 12 48 ∷ refused 12 302 ∷ []
 unfolding reading scanAt scan readBlocks readLines readLine readValue readDigits format more line inValue enter step
 too-many = refl
 

@@ -21,7 +21,8 @@ pub record Block : Type 0 where
 abbrev pub columns : Block → ℕ
 columns b = length (b .names)
 
--- THE TABLE: the names of the month line's block, and of each kind of line of which there may be any count, as in paper 01's example
+-- THE TABLE: the names of the month line's block, and of each kind of line of which there may be any count, as in paper 01's example;
+-- `ong` is paper 02's (Q-1)
 abbrev pub month : List String
 month = "month" ∷ "ons" ∷ []
 
@@ -29,7 +30,7 @@ abbrev pub agents : List String
 agents = "agent" ∷ "pb" ∷ "pv" ∷ "afs" ∷ "rfs" ∷ "pa" ∷ "ret" ∷ []
 
 abbrev pub users : List String
-users = "user" ∷ "kind" ∷ "ret" ∷ []
+users = "user" ∷ "kind" ∷ "ret" ∷ "ong" ∷ []
 
 abbrev pub points : List String
 points = "at" ∷ "tp" ∷ "tf" ∷ "dp" ∷ "df" ∷ "mp" ∷ "mf" ∷ "vp" ∷ "vf" ∷ []

@@ -55,7 +55,7 @@ namesText e b = line e (map bytes (b .names))
 pub the-names :
     (r : Slices)
     → map (namesText LF) (blocks r)
-    ≡ map bytes ("month,ons\n" ∷ "agent,pb,pv,afs,rfs,pa,ret\n" ∷ "user,kind,ret\n" ∷ "at,tp,tf,dp,df,mp,mf,vp,vf\n" ∷ [])
+    ≡ map bytes ("month,ons\n" ∷ "agent,pb,pv,afs,rfs,pa,ret\n" ∷ "user,kind,ret,ong\n" ∷ "at,tp,tf,dp,df,mp,mf,vp,vf\n" ∷ [])
 unfolding line more
 the-names r = refl
 

@@ -24,8 +24,10 @@ use Rattle.rules.specs.declared.Answer.the-variants.{Accepted}
 use Rattle.rules.specs.Lines.{monthLines}
 use Rattle.rules.specs.Demand.{Call, AllPromised, Demand3, SliceLeft}
 use Rattle.rules.specs.Demand as rules
+use Rattle.rules.specs.NoDirect.{NoneDirect, AsBefore}
 use Rattle.rules.proofs.Demand.{demand-3}
 use Rattle.rules.proofs.OneSlice.{demand-3-same-slice}
+use Rattle.rules.proofs.NoDirect.{as-before}
 use Rattle.records.proofs.Learnt.{CallOf}
 use Rattle.ledger.proofs.open as open'
 use Rattle.ledger.proofs.open.Reads as open-reads
@@ -93,6 +95,15 @@ pub Demand-3 :
     → Demand3 (o .args .0) (o .args .1 .0) (heldAt o) (o .result .ledger) (heldLeft o) (map plain cs)
 Demand-3 o cs h =
     demand-3 (o .args .0) (o .args .1 .0) (heldAt o) (o .result) (heldLeft o) (o .learnt) (o .accepted) (map plain cs) h (promised cs)
+
+-- of months without direct charges it says what it said before there were any (paper 02, Q-1)
+pub Demand-3-as-before :
+    (o : Opened) (cs : List Called)
+    → Chain (o .result .ledger) (creditsLeft o) cs
+    → NoneDirect (map plain cs)
+    → AsBefore (o .args .0) (o .args .1 .0) (map plain cs)
+Demand-3-as-before o cs h z =
+    as-before (o .args .0) (o .args .1 .0) (heldAt o) (o .result .ledger) (heldLeft o) (map plain cs) z (Demand-3 o cs h)
 
 -- ---- the very same slice throughout
 -- the first closing gets the ledger and the slice of the opening, each later one those of the call before it, tail and length included

@@ -78,7 +78,8 @@ module _ {g : Ledger} {held cells : List ℤ} {work : List ℕ} {line : MonthLin
     pub cells-small : (length agents + 1) * length users ≤ 257 * 512
     cells-small = cells-few g held cells work line agents users points passed
 
-    pub may-write : Writable (r .bills) line agents (take (length users) held) (take ((length agents + 1) * length users) cells) work g (stateOf g held)
+    pub may-write : Writable (r .bills) line agents (take (length users) held) (take ((length agents + 1) * length users) cells) work g users
+        (stateOf g held)
         (shortOf g held cells work) l
     may-write = writable g held cells work line agents users points passed (r .bills) (rw (length-map users userOf) at (f .judged .bills passed))
 

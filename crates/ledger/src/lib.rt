@@ -111,6 +111,7 @@ fn finish(
                 &mut cells[..c],
                 work,
                 ledger,
+                users,
             );
             Outcome {
                 answer: Answer::Accepted,

@@ -44,7 +44,7 @@ pub(crate) fn users_at(text: &[u8], at: usize, users: &mut [UserLine]) -> Lines
     let mut n = 0;
     while n < users.len() {
         if line_here(text, i) {
-            let mut row = [0i64; 3];
+            let mut row = [0i64; 4];
             i = line_at(text, i, &mut row);
             users[n] = row;
             n += 1;

@@ -103,7 +103,7 @@ fn file(text: &[u8], i: usize, slices: Slices) -> Scanned
 {
     let m = month(text, i, &MONTH);
     let a = next_block(text, m, &AGENTS, 6, slices[0]);
-    let u = next_block(text, a, &USERS, 2, slices[1]);
+    let u = next_block(text, a, &USERS, 3, slices[1]);
     let p = next_block(text, u, &POINTS, 8, slices[2]);
     file_end(text, p)
 }

@@ -8,7 +8,7 @@ abbrev pub agentWidth : ℕ
 agentWidth = 7
 
 abbrev pub userWidth : ℕ
-userWidth = 3
+userWidth = 4
 
 abbrev pub Ra : RattleType
 Ra = Array i64 agentWidth

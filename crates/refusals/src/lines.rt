@@ -97,6 +97,7 @@ fn bad_user(k: u64, line: UserLine) -> bool
     !is_number(line[columns::USER_NUMBER], k)
         | ints::outside(1, 3, line[columns::KIND])
         | bad_correction(line[columns::USER_RET])
+        | bad_amount(line[columns::ONG])
 }
 
 fn users_verdict(users: &[UserLine]) -> Answer

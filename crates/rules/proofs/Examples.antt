@@ -36,7 +36,7 @@ abbrev agent : ℤ → ℤ → ℤ → Row
 agent number pb pv = number ∷ pb ∷ pv ∷ pos 0 ∷ pos 0 ∷ pos 0 ∷ pos 0 ∷ []
 
 abbrev user : ℤ → ℤ → Row
-user number kind = number ∷ kind ∷ pos 0 ∷ []
+user number kind = number ∷ kind ∷ pos 0 ∷ pos 0 ∷ []
 
 abbrev point : ℤ → ℤ → ℤ → Row
 point number dp mf = number ∷ pos 1000 ∷ pos 0 ∷ dp ∷ pos 0 ∷ pos 3 ∷ mf ∷ pos 3 ∷ pos 0 ∷ []
@@ -54,10 +54,15 @@ u2 = user (pos 2) (pos 2)
 abbrev p1 : Row
 p1 = point (pos 1) (pos 0) (pos 0)
 
--- the consumer with a correction, and its point of one cent: a thousandth of a real for each of 10 kW
+-- the consumer with a correction
 abbrev corrected : ℤ → Row
-corrected ret = pos 1 ∷ pos 2 ∷ ret ∷ []
+corrected ret = pos 1 ∷ pos 2 ∷ ret ∷ pos 0 ∷ []
 
+-- the consumer with a direct charge
+abbrev charged : ℤ → Row
+charged ong = pos 1 ∷ pos 2 ∷ pos 0 ∷ ong ∷ []
+
+-- its point of one cent: a thousandth of a real for each of 10 kW
 abbrev cent : Row
 cent = pos 1 ∷ pos 1 ∷ pos 0 ∷ pos 0 ∷ pos 0 ∷ pos 10 ∷ pos 0 ∷ pos 10 ∷ pos 0 ∷ []
 
@@ -114,6 +119,10 @@ bySelf =
     ∷ (close (month (pos 202407) (negℤ (pos 1)) (a1 ∷ []) (u1 ∷ []) (p1 ∷ [])), refused 5 0)
     ∷ (close (lines (agent (pos 2) (pos 1000) (pos 0) ∷ []) (u1 ∷ []) (p1 ∷ [])), refused 5 1)
     ∷ (close (lines (a1 ∷ []) (user (pos 1) (pos 4) ∷ []) (p1 ∷ [])), refused 5 1)
+    -- and a direct charge, which is 0 to 10^11 (paper 02, Q-1)
+    ∷ (close (lines (a1 ∷ []) (charged (negℤ (pos 1)) ∷ []) (p1 ∷ [])), refused 5 1)
+    ∷ (close (lines (a1 ∷ []) (charged (pos (10 ^ 11 + 1)) ∷ []) (p1 ∷ [])), refused 5 1)
+    ∷ (close (lines (a1 ∷ []) (charged (pos (10 ^ 11)) ∷ []) (p1 ∷ [])), accepted)
     -- 6: user 3 of 2; user 0
     ∷ (closing2 2 (lines (a1 ∷ []) (u1 ∷ u2 ∷ []) (p1 ∷ point (pos 3) (pos 0) (pos 0) ∷ [])), refused 6 2)
     ∷ (close (lines (a1 ∷ []) (u1 ∷ []) (point (pos 0) (pos 0) (pos 0) ∷ [])), refused 6 1)
@@ -125,6 +134,8 @@ bySelf =
     ∷ (close (lines (agent (pos 1) (pos 0) (pos 0) ∷ []) (u1 ∷ []) (p1 ∷ [])), refused 8 0)
     ∷ (close (lines (agent (pos 1) (pos 1000) (pos 5) ∷ []) (u1 ∷ []) []), refused 9 0)
     ∷ (close (lines (a1 ∷ []) (u1 ∷ []) []), refused 10 0)
+    -- 10 looks at debits alone: a direct charge is none
+    ∷ (close (lines (a1 ∷ []) (charged (pos 5) ∷ []) []), refused 10 0)
     -- and a sum of one cent is taken: of pb; of EUST, with pv 5; of VD
     ∷ (close (lines (agent (pos 1) (pos 1) (pos 0) ∷ []) (u1 ∷ []) (p1 ∷ [])), accepted)
     ∷ (close (lines (agent (pos 1) (pos 1000) (pos 5) ∷ []) (corrected (pos 5) ∷ []) (cent ∷ [])), accepted)
@@ -179,8 +190,8 @@ amounts =
     ∷ (overrun consumer (measured (pos 106)), pos 300)
     ∷ (overrun generator (measured (pos 101)), pos 0)
     ∷ (overrun generator (measured (pos 102)), pos 300)
-    -- VME adds the correction: use 10,000, overrun 300, ret −7
-    ∷ (getD (VMEs (lines [] ((pos 1 ∷ consumer ∷ negℤ (pos 7) ∷ []) ∷ []) (measuredRow (pos 106) ∷ []))) 0 (pos 0), pos 10293)
+    -- VME adds the correction and no direct charge: use 10,000, overrun 300, ret −7, ong 9
+    ∷ (getD (VMEs (lines [] ((pos 1 ∷ consumer ∷ negℤ (pos 7) ∷ pos 9 ∷ []) ∷ []) (measuredRow (pos 106) ∷ []))) 0 (pos 0), pos 10293)
     -- VMST adds afs and takes pv and rfs: 1000 − 30 + 7 − 5
     ∷ (VMST (agentOf (pos 1 ∷ pos 1000 ∷ pos 30 ∷ pos 7 ∷ pos 5 ∷ pos 0 ∷ pos 0 ∷ [])), pos 972)
     ∷ []

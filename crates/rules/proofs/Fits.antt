@@ -63,9 +63,15 @@ agent-fits k a e =
 pub user-fits : (k : ℕ) (u : User) → badUser k u ≡ false → UserFits k u
 unfolding badUser
 user-fits k u e =
-    let e₂ = or-false _ _ e in
+    let e₃ = or-false _ _ e in
+    let e₂ = or-false _ _ (e₃ .0) in
     let e₁ = or-false _ _ (e₂ .0) in
-    record { number = eqZ-true _ _ (not-false _ (e₁ .0)); kind = outside-false _ _ _ (e₁ .1); ret = outside-false _ _ _ (e₂ .1) }
+    record {
+      number = eqZ-true _ _ (not-false _ (e₁ .0));
+      kind = outside-false _ _ _ (e₁ .1);
+      ret = outside-false _ _ _ (e₂ .1);
+      ong = outside-false _ _ _ (e₃ .1);
+    }
 
 pub point-fits : (p : Point) → badPoint p ≡ false → PointFits p
 unfolding badPoint

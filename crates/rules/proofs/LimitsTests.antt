@@ -142,7 +142,7 @@ agent-agrees k a = agrees-when _ 5 k (agent-fine k a, agent-fits k a)
 
 user-fine : (k : ℕ) (u : User) → UserFits k u → badUser k u ≡ false
 unfolding badUser
-user-fine k u f = rw (not-unlike (f .number), within-false _ _ _ (f .kind), within-false _ _ _ (f .ret))
+user-fine k u f = rw (not-unlike (f .number), within-false _ _ _ (f .kind), within-false _ _ _ (f .ret), within-false _ _ _ (f .ong))
 
 pub user-agrees : (k : ℕ) (u : User) → Agrees (userLimit k u) (userTest k u)
 user-agrees k u = agrees-when _ 5 k (user-fine k u, user-fits k u)

@@ -9,7 +9,7 @@ use lib.ListN.{length, getD}
 use lib.Seq.{ext-getD}
 use Rattle.ints.specs.Floor.{floor}
 use Rattle.ints.specs.Sums.{sumℤ}
-use Rattle.rules.specs.Table.{Cell, rounded-down, rounded-up, Table}
+use Rattle.rules.specs.Table.{Cell, rounded-down, rounded-up, cellAt, Table}
 
 -- every VC × VD is a multiple of the sum of VD
 pub record AllWhole (vc vd : List ℤ) : Type 0 where
@@ -25,17 +25,22 @@ some-user : (m n k : ℕ) → k < m * n → 0 < n
 some-user m zero k h = absurd (omega arith)
 some-user m (suc n) k h = omega arith
 
-module _ {vc vd xs ys : List ℤ} (w : AllWhole vc vd) (s : Table vc vd xs) (t : Table vc vd ys) where
-  same-at : (k : ℕ) → k < length xs → getD xs k (pos 0) ≡ getD ys k (pos 0)
-  same-at k h =
-      let n = length vd in
-      let l : k < length vc * n = subst (λ (z : ℕ). k < z) (s .size) h in
-      let p = some-user (length vc) n k l in
-      let i = div-lt-iff-lt-mul p .1 l in
-      let j = mod-lt k p in
-      let e = w .at (k / n) (k % n) i j in
-      subst (λ (z : ℕ). getD xs z (pos 0) ≡ getD ys z (pos 0)) (div-add-mod' k n)
-      (whole-cell _ _ e (s .cell (k / n) (k % n) i j) ∙ sym (whole-cell _ _ e (t .cell (k / n) (k % n) i j)))
+-- two lists of m rows of n entries are the same where every cell is
+pub same-cells :
+    (m n : ℕ) (xs ys : List ℤ)
+    → length xs ≡ m * n
+    → length ys ≡ m * n
+    → ((i j : ℕ) → i < m → j < n → cellAt n xs i j ≡ cellAt n ys i j)
+    → xs ≡ ys
+same-cells m n xs ys e f h = ext-getD (pos 0) xs ys (e ∙ sym f) at
+  where
+    at : (k : ℕ) → k < length xs → getD xs k (pos 0) ≡ getD ys k (pos 0)
+    at k l =
+        let q : k < m * n = subst (λ (z : ℕ). k < z) e l in
+        let p = some-user m n k q in
+        subst (λ (z : ℕ). getD xs z (pos 0) ≡ getD ys z (pos 0)) (div-add-mod' k n) (h (k / n) (k % n) (div-lt-iff-lt-mul p .1 q) (mod-lt k p))
 
-  pub one-table : xs ≡ ys
-  one-table = ext-getD (pos 0) xs ys (s .size ∙ sym (t .size)) same-at
+pub one-table : {vc vd xs ys : List ℤ} → AllWhole vc vd → Table vc vd xs → Table vc vd ys → xs ≡ ys
+one-table {vc} {vd} {xs} {ys} w s t =
+    same-cells (length vc) (length vd) xs ys (s .size) (t .size)
+    (λ i j p q. whole-cell _ _ (w .at i j p q) (s .cell i j p q) ∙ sym (whole-cell _ _ (w .at i j p q) (t .cell i j p q)))

@@ -11,9 +11,8 @@ use Rattle.rules.specs.declared.Ledger.{Ledger}
 use Rattle.rules.specs.declared.Outcome.{Outcome}
 use Rattle.rules.specs.Verdict.{Verdict, accepted, refused, ByVerdict}
 use Rattle.rules.specs.Lines.{Lines}
-use Rattle.rules.specs.Charges.{VDs, newCredits}
-use Rattle.rules.specs.Credits.{VCs}
-use Rattle.rules.specs.Table.{Table}
+use Rattle.rules.specs.Charges.{newCredits}
+use Rattle.rules.specs.Direct.{MonthTable}
 use Rattle.rules.specs.Refusals.{cellsNeeded, openingRefusal}
 use Rattle.rules.specs.Calls.{verdictOf, emptyLedger, Opens, stateOf, closingRefusal, Closes}
 use Rattle.rules.proofs.Tests.{refused-not-accepted}
@@ -63,11 +62,11 @@ module _ (g : Ledger) (held : List ℤ) (l : Lines) (cells : List ℤ) (work : L
       (n p : ℕ) → closingRefusal g held cells work l ≡ refused n p → Closes g held l cells work (record { answer = Refused n p; ledger = g }) held cells work
   closes-refused n p e = by-refused e (record { outcome = refl; credits = refl; table = refl; scratch = refl })
 
-  -- a table of the month, written over the front of the cells slice
+  -- the table of the month, written over the front of the cells slice
   pub closes-accepted :
       (table : List ℤ) (work′ : List ℕ)
       → closingRefusal g held cells work l ≡ accepted
-      → Table (VCs (stateOf g held) l) (VDs (stateOf g held) l) table
+      → MonthTable (stateOf g held) l table
       → length table ≡ cellsNeeded (g .users) (g .agents)
       → length work′ ≡ length work
       → Closes g held l cells work (record { answer = Accepted; ledger = record { users = g .users; agents = g .agents; month = l .line .month } })
@@ -80,7 +79,7 @@ module _ (g : Ledger) (held : List ℤ) (l : Lines) (cells : List ℤ) (work : L
       (record {
         outcome = refl;
         credits = refl;
-        table = subst (λ (x : List ℤ). Table (VCs (stateOf g held) l) (VDs (stateOf g held) l) x) (sym (take-at table (drop need cells) need n)) t;
+        table = subst (λ (x : List ℤ). MonthTable (stateOf g held) l x) (sym (take-at table (drop need cells) need n)) t;
         beyond = drop-at table (drop need cells) need n;
         scratch = w;
       })

@@ -44,7 +44,7 @@ agentsApart =
     ∷ []
 
 abbrev usersApart : List (List ℕ)
-usersApart = (1 ∷ 2 ∷ 0 ∷ []) ∷ (2 ∷ 3 ∷ 0 ∷ []) ∷ (3 ∷ 3 ∷ 0 ∷ []) ∷ []
+usersApart = (1 ∷ 2 ∷ 0 ∷ 0 ∷ []) ∷ (2 ∷ 3 ∷ 0 ∷ 0 ∷ []) ∷ (3 ∷ 3 ∷ 0 ∷ 0 ∷ []) ∷ []
 
 -- the user of the last point
 abbrev pointsUnder : ℕ → List (List ℕ)

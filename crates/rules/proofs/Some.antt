@@ -22,6 +22,7 @@ use Rattle.rules.specs.Calls.{Opens, stateOf, lengthsOf, closingRefusal,
 use Rattle.rules.specs.Demand.{Call, Promised, Lent, leftIn, Chain, AllPromised}
 use Rattle.rules.proofs.Passed.{Passed, slices, slices-accepted, passed}
 use Rattle.rules.proofs.Sizes.{length-VDs, length-VCs}
+use Rattle.rules.proofs.Direct.{month-table}
 use Rattle.rules.proofs.Promise.{opens-accepted, closes-refused, closes-accepted}
 
 -- a table always exists: of every month that nothing refuses
@@ -120,8 +121,9 @@ one tables g credits i = go (closingRefusal g (slice credits (i .lent)) (i .cell
         let t = tables s (i .lines) w short e in
         let rows : length (VCs s (i .lines)) ≡ suc (g .agents) = length-VCs s (i .lines) ∙ ap suc (q .agents) in
         let columns : length (VDs s (i .lines)) ≡ g .users = length-VDs s (i .lines) (w ∙ sym (q .users)) ∙ q .users in
-        let size : length (t .0) ≡ cellsNeeded (g .users) (g .agents) = t .1 .size ∙ ap₂ _*_ rows columns ∙ omega arith in
-        one-of g credits i _ _ _ (i .work) (closes-accepted g held (i .lines) (i .cells) (i .work) (t .0) (i .work) e (t .1) size refl)
+        let needed : length (VCs s (i .lines)) * length (VDs s (i .lines)) ≡ cellsNeeded (g .users) (g .agents) = ap₂ _*_ rows columns ∙ omega arith in
+        let m = month-table s (i .lines) (q .users) (t .0) (t .1 .size ∙ needed) (t .1) in
+        one-of g credits i _ _ _ (i .work) (closes-accepted g held (i .lines) (i .cells) (i .work) _ (i .work) e m (m .size ∙ needed) refl)
 
 -- these closings are of these inputs, each lent the credits that the one before left
 unfoldable pub Of : List ℤ → List Call → List Input → Type 0

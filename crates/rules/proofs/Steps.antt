@@ -15,8 +15,8 @@ use Rattle.rules.specs.declared.Ledger.{Ledger}
 use Rattle.rules.specs.declared.Outcome.{Outcome}
 use Rattle.rules.specs.Verdict.{Verdict, accepted, refused, ByVerdict}
 use Rattle.rules.specs.Charges.{VMEs, CPVs, VDs, newCredits}
-use Rattle.rules.specs.Credits.{VCs}
-use Rattle.rules.specs.Table.{cellAt, Table}
+use Rattle.rules.specs.Table.{cellAt}
+use Rattle.rules.specs.Direct.{ongs, MonthTable}
 use Rattle.rules.specs.State.{State}
 use Rattle.rules.specs.Refusals.{cellsNeeded, shortSlices}
 use Rattle.rules.specs.Calls.{verdictOf, stateOf, closingRefusal, Closed, NotClosed}
@@ -49,9 +49,20 @@ pub record Step (v : Verdict) (users agents : ℕ) (s : State) (c : Call) (credi
       (i : ℕ) → i < suc agents → counted v (Σ< users (λ j. cellAt users (c .cellsLeft) i j)) ≡ counted v (payeeCredit i s (c .lines))
   pub near : ByVerdict v (NearCells s (c .lines) (c .cellsLeft)) (λ n p. Unit {0})
 
--- d − n = v − p − k, with each taken to the side where it is added
-turned : (d n v p k : ℤ) → d -ℤ n ≡ v -ℤ p -ℤ k → d +ℤ k ≡ v -ℤ p +ℤ n
-turned d n v p k e = omega (za, sub# d n, sub# v p, sub# (v -ℤ p) k, add# d k, add# (v -ℤ p) n)
+-- d − n = v − p − k, with each taken to the side where it is added, and g on both
+turned : (d n v p k g : ℤ) → d -ℤ n ≡ v -ℤ p -ℤ k → d +ℤ g +ℤ k ≡ v +ℤ g -ℤ p +ℤ n
+turned d n v p k g e =
+    omega (
+      za,
+      sub# d n,
+      sub# v p,
+      sub# (v -ℤ p) k,
+      add# d g,
+      add# (d +ℤ g) k,
+      add# v g,
+      sub# (v +ℤ g) p,
+      add# (v +ℤ g -ℤ p) n,
+    )
 
 module _ (users agents : ℕ) (s : State) (c : Call) (credits : List ℤ) (a : Agree users agents s (c .ledger) credits) (lent : Lent credits (c .held)) where
   users-are : c .ledger .users ≡ s .users
@@ -132,26 +143,25 @@ module _ (users agents : ℕ) (s : State) (c : Call) (credits : List ℤ) (a : A
 
     step-accepted : Step accepted users agents s c credits
     step-accepted =
-        let vc = VCs s (c .lines) in
-        let vd = VDs s (c .lines) in
-        let t : Stands (s .users) (s .agents) vc vd (c .cellsLeft) =
-        stands (s .users) (s .agents) vc vd (c .cellsLeft)
-        (length-VCs s (c .lines) ∙ ap suc (p .agents))
-        (length-VDs s (c .lines) w ∙ p .users)
-        (subst (λ (x : State). Table (VCs x (c .lines)) (VDs x (c .lines)) (take (cellsNeeded (x .users) (x .agents)) (c .cellsLeft))) lent-so (k .table))
-        (VD-total-above s (c .lines) (p .VD-total)) in
-        let u : Stands users agents vc vd (c .cellsLeft) =
-        subst (λ (m : ℕ). Stands users m vc vd (c .cellsLeft)) (a .tally-agents)
-        (subst (λ (n : ℕ). Stands n (s .agents) vc vd (c .cellsLeft)) (a .tally-users) t) in
+        let l = c .lines in
+        let t : Stands (s .users) (s .agents) s l (c .cellsLeft) =
+        stands s l (c .cellsLeft) (p .agents) (p .users)
+        (subst (λ (x : State). MonthTable x l (take (cellsNeeded (x .users) (x .agents)) (c .cellsLeft))) lent-so (k .table))
+        (length-VCs s l ∙ ap suc (p .agents))
+        (length-VDs s l w ∙ p .users)
+        (VD-total-above s l (p .VD-total)) in
+        let u : Stands users agents s l (c .cellsLeft) =
+        subst (λ (m : ℕ). Stands users m s l (c .cellsLeft)) (a .tally-agents)
+        (subst (λ (n : ℕ). Stands n (s .agents) s l (c .cellsLeft)) (a .tally-users) t) in
         record {
           answer = ap (λ (x : Outcome). verdictOf (x .answer)) (k .outcome);
           agree = agreed;
           user = λ j h.
               ap (λ (x : ℤ). x +ℤ getD (s .credits) j (pos 0)) (u .column j h)
-              ∙ turned (getD vd j (pos 0)) (getD (newCredits s (c .lines)) j (pos 0)) (getD (VMEs (c .lines)) j (pos 0))
-              (getD (CPVs (c .lines)) j (pos 0))
+              ∙ turned (getD (VDs s l) j (pos 0)) (getD (newCredits s l) j (pos 0)) (getD (VMEs l) j (pos 0)) (getD (CPVs l) j (pos 0))
               (getD (s .credits) j (pos 0))
-              (debit-balance s (c .lines) w j (omega (arith, p .users, a .tally-users)));
+              (getD (ongs (l .users)) j (pos 0))
+              (debit-balance s l w j (omega (arith, p .users, a .tally-users)));
           payee = λ i h. u .row i h;
           near = by-accepted refl (record { near = t .near });
         }

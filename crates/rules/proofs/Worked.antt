@@ -22,24 +22,28 @@ use Rattle.rules.specs.Charges.{halfUp, orZero, useCharge, allowance, ex
 use Rattle.rules.specs.Charges.{overrunSums, VMEs, pvTotal, CPVs, ns, VDs, newCredits}
 use Rattle.rules.specs.Credits.{VMPA, VMST, ownCredit, ownCreditsFrom, SMSEFrom, VMANTsFrom, agentVCsFrom, VCsFrom, VCs}
 use Rattle.rules.specs.Table.{Cell, rounded-down, cellAt, Table}
+use Rattle.rules.specs.Direct.{MonthTable}
 use Rattle.rules.specs.Refusals.{badCounts, shortSlices, badMonth, countTests, stateTests, linesBeforePoints}
 use Rattle.rules.specs.Refusals.{lineTests, sumTests, refusal, openingRefusal}
 use Rattle.rules.specs.Calls.{Opens, stateOf, closingRefusal}
 use Rattle.rules.specs.Demand.{Call, Promised, leftIn, Chain, AllPromised, lastCredits, Demand3}
+use Rattle.rules.proofs.Direct.{month-table}
 use Rattle.rules.proofs.Promise.{opens-accepted, closes-accepted, closes-refused}
 use Rattle.rules.proofs.Demand.{demand-3}
 
--- the example file's lines, in this month and with this correction of the first user; in August it is owed more than it is charged
-abbrev inMonth : ℤ → ℤ → Lines
-inMonth month ret =
-    monthLines (record { month = month; ons = julyLine .ons }) (lines julyAgents) ((pos 1 ∷ pos 2 ∷ ret ∷ []) ∷ (pos 2 ∷ pos 3 ∷ pos 0 ∷ []) ∷ [])
+-- the example file's lines, in this month, with this correction of the first user and these direct charges; in August the first user is
+-- owed more than it is charged, and both have direct charges
+abbrev inMonth : ℤ → ℤ → ℤ → ℤ → Lines
+inMonth month ret ong₁ ong₂ =
+    monthLines (record { month = month; ons = julyLine .ons }) (lines julyAgents)
+    ((pos 1 ∷ pos 2 ∷ ret ∷ ong₁ ∷ []) ∷ (pos 2 ∷ pos 3 ∷ pos 0 ∷ ong₂ ∷ []) ∷ [])
     (points julyPoints)
 
 abbrev august : Lines
-august = inMonth (pos 202408) (negsuc 449)
+august = inMonth (pos 202408) (negsuc 449) (pos 7) (pos 30)
 
 abbrev september : Lines
-september = inMonth (pos 202409) (pos 0)
+september = inMonth (pos 202409) (pos 0) (pos 0) (pos 0)
 
 -- a slice of three entries, for two users: what it held before the opening, and after it
 abbrev before : List ℤ
@@ -84,8 +88,12 @@ table₂ = pos 0 ∷ pos 504 ∷ pos 0 ∷ pos 972 ∷ pos 0 ∷ pos 100 ∷ []
 abbrev cells₁ : List ℤ
 cells₁ = table₁ ++ pos 9 ∷ []
 
+-- August's with the direct charges added to its last row; the credit that the first user still holds pays none of them
+abbrev billed₂ : List ℤ
+billed₂ = pos 0 ∷ pos 504 ∷ pos 0 ∷ pos 972 ∷ pos 7 ∷ pos 130 ∷ []
+
 abbrev cells₂ : List ℤ
-cells₂ = table₂ ++ pos 9 ∷ []
+cells₂ = billed₂ ++ pos 9 ∷ []
 
 abbrev work : List ℕ
 work = replicate 32 0
@@ -187,17 +195,25 @@ module _ (a b c d e : ℤ) (t : List ℤ) where
         column = each-column Column c₀ c₁;
       }
 
-table₁-is : Table (VCs (stateOf new held₁) july) (VDs (stateOf new held₁) july) table₁
+shared₁ : Table (VCs (stateOf new held₁) july) (VDs (stateOf new held₁) july) table₁
 unfolding floor sumℤ Σ<
-table₁-is =
+shared₁ =
     subst₂ (λ (x y : List ℤ). Table x y table₁) VCs₁ VDs₁
     (whole-table (pos 635) (pos 1235) (pos 100) (pos 394) (pos 1576) table₁ refl refl refl refl refl refl refl refl refl refl refl refl)
 
-table₂-is : Table (VCs (stateOf (ledger (pos 202407)) held₂) august) (VDs (stateOf (ledger (pos 202407)) held₂) august) table₂
+shared₂ : Table (VCs (stateOf (ledger (pos 202407)) held₂) august) (VDs (stateOf (ledger (pos 202407)) held₂) august) table₂
 unfolding floor sumℤ Σ<
-table₂-is =
+shared₂ =
     subst₂ (λ (x y : List ℤ). Table x y table₂) VCs₂ VDs₂
     (whole-table (pos 504) (pos 972) (pos 100) (pos 0) (pos 1576) table₂ refl refl refl refl refl refl refl refl refl refl refl refl)
+
+billed₁-is : MonthTable (stateOf new held₁) july table₁
+unfolding sideBySide
+billed₁-is = month-table (stateOf new held₁) july refl table₁ refl shared₁
+
+billed₂-is : MonthTable (stateOf (ledger (pos 202407)) held₂) august billed₂
+unfolding sideBySide
+billed₂-is = month-table (stateOf (ledger (pos 202407)) held₂) august refl table₂ refl shared₂
 
 -- ---- the opening and the four closings
 opening : Opens 2 2 before (record { answer = Accepted; ledger = new }) after-opening
@@ -244,12 +260,12 @@ calls =
 first : Promised (closed new held₁ july cells held₁ cells₁)
 first =
     subst (λ (x : List ℤ). Promised (closed new held₁ july cells (x ++ pos 88 ∷ []) cells₁)) new₁
-    (closes-accepted new held₁ july cells work table₁ work in-july table₁-is refl refl)
+    (closes-accepted new held₁ july cells work table₁ work in-july billed₁-is refl refl)
 
 second : Promised (closed (ledger (pos 202407)) held₂ august cells₁ left₂ cells₂)
 second =
     subst (λ (x : List ℤ). Promised (closed (ledger (pos 202407)) held₂ august cells₁ (x ++ pos 8 ∷ pos 9 ∷ []) cells₂)) new₂
-    (closes-accepted (ledger (pos 202407)) held₂ august cells₁ work table₂ work in-august table₂-is refl refl)
+    (closes-accepted (ledger (pos 202407)) held₂ august cells₁ work billed₂ work in-august billed₂-is refl refl)
 
 promised : AllPromised calls
 unfolding AllPromised

@@ -10,9 +10,8 @@ use Rattle.rules.specs.declared.Answer.the-variants.{Accepted, Refused}
 use Rattle.rules.specs.declared.Outcome.{Outcome}
 use Rattle.rules.specs.Verdict.{Verdict, accepted, refused, ByVerdict}
 use Rattle.rules.specs.Lines.{Lines}
-use Rattle.rules.specs.Charges.{VDs, newCredits}
-use Rattle.rules.specs.Credits.{VCs}
-use Rattle.rules.specs.Table.{Table}
+use Rattle.rules.specs.Charges.{newCredits}
+use Rattle.rules.specs.Direct.{MonthTable}
 use Rattle.rules.specs.State.{State}
 use Rattle.rules.specs.Refusals.{Lengths, cellsNeeded, shortSlices, refusal, openingRefusal}
 
@@ -50,13 +49,13 @@ lengthsOf held cells work = record { held = length held; cells = length cells; w
 abbrev pub closingRefusal : Ledger → List ℤ → List ℤ → List ℕ → Lines → Verdict
 closingRefusal g held cells work l = refusal (stateOf g held) (shortSlices (stateOf g held) (lengthsOf held cells work)) l
 
--- accepted: the ledger with this month; the new credits; a table of the month's credits and debits, which broken cells take the extra
--- cent being free. Entries beyond stay, and what the work slice holds is free
+-- accepted: the ledger with this month; the new credits; the month's table, which broken cells of the shared part take the extra cent
+-- being free. Entries beyond stay, and what the work slice holds is free
 pub record Closed (g : Ledger) (held : List ℤ) (l : Lines) (cells : List ℤ) (work : List ℕ) (r : Outcome) (held′ cells′ : List ℤ) (work′ : List ℕ)
     : Type 0 where
   pub outcome : r ≡ record { answer = Accepted; ledger = record { users = g .users; agents = g .agents; month = l .line .month } }
   pub credits : held′ ≡ newCredits (stateOf g held) l ++ drop (g .users) held
-  pub table : Table (VCs (stateOf g held) l) (VDs (stateOf g held) l) (take (cellsNeeded (g .users) (g .agents)) cells′)
+  pub table : MonthTable (stateOf g held) l (take (cellsNeeded (g .users) (g .agents)) cells′)
   pub beyond : drop (cellsNeeded (g .users) (g .agents)) cells′ ≡ drop (cellsNeeded (g .users) (g .agents)) cells
   pub scratch : length work′ ≡ length work
 

@@ -15,6 +15,7 @@ use Rattle.rules.specs.Lines.{Lines}
 use Rattle.rules.specs.Charges.{VDs}
 use Rattle.rules.specs.Credits.{VCs}
 use Rattle.rules.specs.Table.{cellAt}
+use Rattle.rules.specs.Direct.{direct}
 use Rattle.rules.specs.State.{State}
 use Rattle.rules.specs.Calls.{verdictOf, stateOf, lengthsOf, Closes}
 use Rattle.rules.specs.Tally.{Fed, opened, judged, next, after, verdicts, counted, added, chargesLessCompensation, payeeCredit}
@@ -83,13 +84,15 @@ billedToUser users agents j cs = billed (λ cells. Σ< (suc agents) (λ i. cellA
 abbrev pub billedByPayee : ℕ → ℕ → List Call → ℤ
 billedByPayee users i cs = billed (λ cells. Σ< users (λ j. cellAt users cells i j)) cs
 
--- in an accepted month every cell lies less than one cent from VC × VD / ΣVD: |cell × ΣVD − VC × VD| < ΣVD
+-- in an accepted month every cell, its direct charge taken off, lies less than one cent from VC × VD / ΣVD, where ONS's VC is its shared
+-- part: |(cell − direct) × ΣVD − VC × VD| < ΣVD
 pub record NearCells (s : State) (l : Lines) (cells : List ℤ) : Type 0 where
   pub near :
       (i j : ℕ)
       → i < suc (s .agents)
       → j < s .users
-      → pos (abs (cellAt (s .users) cells i j *ℤ sumℤ (VDs s l) -ℤ getD (VCs s l) i (pos 0) *ℤ getD (VDs s l) j (pos 0))) <ℤ sumℤ (VDs s l)
+      → pos (abs ((cellAt (s .users) cells i j -ℤ direct s l i j) *ℤ sumℤ (VDs s l) -ℤ getD (VCs s l) i (pos 0) *ℤ getD (VDs s l) j (pos 0)))
+      <ℤ sumℤ (VDs s l)
 
 unfoldable pub AllNear : State → List Call → Type 0
 AllNear s [] = Unit {0}
@@ -105,7 +108,7 @@ pub record Demand3 (users agents : ℕ) (heldAtOpening : List ℤ) (g : Ledger) 
   -- opening and every closing left entries beyond the users as they were
   pub beyond-opening : drop users held ≡ drop users heldAtOpening
   pub beyond : AllBeyond users cs
-  -- a user's billed cells are its charges less compensation of the accepted months plus the credit that it still holds
+  -- a user's billed cells are its charges, direct ones too, less compensation of the accepted months plus the credit that it still holds
   pub user-total :
       (j : ℕ)
       → j < users
@@ -113,7 +116,7 @@ pub record Demand3 (users agents : ℕ) (heldAtOpening : List ℤ) (g : Ledger) 
       ≡ added (chargesLessCompensation j) (opened users agents) (map fed cs) +ℤ getD (after (opened users agents) (map fed cs) .credits) j (pos 0)
   -- a payee's billed cells are its credits of the accepted months
   pub payee-total : (i : ℕ) → i < suc agents → billedByPayee users i cs ≡ added (payeeCredit i) (opened users agents) (map fed cs)
-  -- every cell of an accepted month lies less than one cent from its exact value
+  -- every cell of an accepted month, less its direct charge, lies less than one cent from its exact value
   pub one-cent : AllNear (opened users agents) cs
 
 -- ---- the very same slice throughout

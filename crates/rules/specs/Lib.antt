@@ -10,6 +10,7 @@ pub mod State
 pub mod Charges
 pub mod Credits
 pub mod Table
+pub mod Direct
 pub mod Refusals
 pub mod Limits
 pub mod TariffYear
@@ -21,4 +22,5 @@ pub mod Tally
 pub mod WholeCycle
 pub mod Demand
 pub mod Demand1
+pub mod NoDirect
 pub mod July

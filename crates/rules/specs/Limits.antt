@@ -74,6 +74,7 @@ pub record UserFits (k : ℕ) (u : User) : Type 0 where
   pub number : u .number ≡ pos k
   pub kind : Within (pos 1) (pos 3) (u .kind)
   pub ret : Correction (u .ret)
+  pub ong : Amount (u .ong)
 
 -- a point's own values
 pub record PointFits (p : Point) : Type 0 where

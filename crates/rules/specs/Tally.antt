@@ -7,7 +7,7 @@ use lib.ListN.{getD, replicate}
 use Rattle.rules.specs.Verdict.{Verdict, accepted, refused}
 use Rattle.rules.specs.Lines.{Lines}
 use Rattle.rules.specs.Charges.{VMEs, CPVs, newCredits}
-use Rattle.rules.specs.Credits.{VCs}
+use Rattle.rules.specs.Direct.{ongs, monthCredits}
 use Rattle.rules.specs.State.{State}
 use Rattle.rules.specs.Refusals.{Lengths, shortSlices, refusal}
 
@@ -50,9 +50,9 @@ unfoldable pub added : (State → Lines → ℤ) → State → List Fed → ℤ
 added amount s [] = pos 0
 added amount s (f ∷ fs) = counted (judged s f) (amount s (f .lines)) +ℤ added amount (next s f) fs
 
--- charges less compensation of the user j, and the credit of the payee i, counted from 0
+-- charges less compensation of the user j, its direct charge among them, and the credit of the payee i, counted from 0
 abbrev pub chargesLessCompensation : ℕ → State → Lines → ℤ
-chargesLessCompensation j s l = getD (VMEs l) j (pos 0) -ℤ getD (CPVs l) j (pos 0)
+chargesLessCompensation j s l = getD (VMEs l) j (pos 0) +ℤ getD (ongs (l .users)) j (pos 0) -ℤ getD (CPVs l) j (pos 0)
 
 abbrev pub payeeCredit : ℕ → State → Lines → ℤ
-payeeCredit i s l = getD (VCs s l) i (pos 0)
+payeeCredit i s l = getD (monthCredits s l) i (pos 0)

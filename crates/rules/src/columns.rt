@@ -15,12 +15,14 @@ pub const PA: usize = 5;
 
 pub const AGENT_RET: usize = 6;
 
-// user,kind,ret
+// user,kind,ret,ong
 pub const USER_NUMBER: usize = 0;
 
 pub const KIND: usize = 1;
 
 pub const USER_RET: usize = 2;
+
+pub const ONG: usize = 3;
 
 // user,tp,tf,dp,df,mp,mf,vp,vf
 pub const POINT_USER: usize = 0;

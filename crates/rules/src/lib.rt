@@ -9,7 +9,7 @@ pub struct MonthLine {
 // An agent's, a user's and a point's line: its values in the order of the columns, which `columns` names.
 pub type AgentLine = [i64; 7];
 
-pub type UserLine = [i64; 3];
+pub type UserLine = [i64; 4];
 
 pub type PointLine = [i64; 9];
 

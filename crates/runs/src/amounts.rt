@@ -49,7 +49,7 @@ fn points(month: i64, points: &[PointLine], rows: &[PointRow], told: &[u8]) -> b
     true
 }
 
-// What a user is charged, and how that is settled against its held credit.
+// What a user is charged; how that is settled against its held credit, and what it owes straight to ONS.
 fn charged(month: i64, j: u64, r: UserRow, told: &[u8]) -> bool {
     if !row(month, b"EUST", Payee::Nobody, j, 0, r[stated::EUST], told) {
         return false;
@@ -100,7 +100,7 @@ fn owed(month: i64, j: u64, r: UserRow, told: &[u8]) -> bool {
     if !row(month, b"VD", Payee::Nobody, j, 0, r[stated::VD], told) {
         return false;
     }
-    row(
+    if !row(
         month,
         b"held_after",
         Payee::Nobody,
@@ -108,7 +108,10 @@ fn owed(month: i64, j: u64, r: UserRow, told: &[u8]) -> bool {
         0,
         r[stated::HELD_AFTER],
         told,
-    )
+    ) {
+        return false;
+    }
+    row(month, b"ong", Payee::Nobody, j, 0, r[stated::ONG], told)
 }
 
 fn users(month: i64, rows: &[UserRow], told: &[u8]) -> bool {
@@ -173,6 +176,14 @@ fn agents(month: i64, rows: &[PayeeRow], told: &[u8]) -> bool {
     true
 }
 
+// ONS's shared part, and its credit with every direct charge.
+fn ons(month: i64, r: PayeeRow, told: &[u8]) -> bool {
+    if !row(month, b"ons", Payee::Ons, 0, 0, r[stated::SHARED], told) {
+        return false;
+    }
+    row(month, b"VC", Payee::Ons, 0, 0, r[stated::VC], told)
+}
+
 // A payee's cell for each user.
 fn cells_of(month: i64, payee: Payee, cents: &[i64], told: &[u8]) -> bool {
     let n = cents.len();
@@ -210,7 +221,7 @@ pub(crate) fn month(
     point_rows: &[PointRow],
     user_rows: &[UserRow],
     agent_rows: &[PayeeRow],
-    ons: i64,
+    ons_row: PayeeRow,
     balance: i64,
     table: &[i64],
     told: &[u8],
@@ -226,7 +237,7 @@ pub(crate) fn month(
     if !agents(month, agent_rows, told) {
         return false;
     }
-    if !row(month, b"VC", Payee::Ons, 0, 0, ons, told) {
+    if !ons(month, ons_row, told) {
         return false;
     }
     if !row(month, b"SMSE", Payee::Nobody, 0, 0, balance, told) {

@@ -209,7 +209,7 @@ fn files(
 // The buffers: 16 agents, 64 users with their held credits, 256 points, 17 × 64 cells, and twice that plus 4 × (17 + 64) entries of work.
 pub(crate) fn all_files(print: Print, text: &[u8], told: &[u8]) {
     let mut agents = [[0i64; 7]; 16];
-    let mut users = [[0i64; 3]; 64];
+    let mut users = [[0i64; 4]; 64];
     let mut points = [[0i64; 9]; 256];
     let mut held = [0i64; 64];
     let mut cells = [0i64; 1088];

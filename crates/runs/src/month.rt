@@ -14,7 +14,6 @@ use rules::UserLine;
 use statement::PayeeRow;
 use statement::PointRow;
 use statement::UserRow;
-use statement::columns as stated;
 
 // What came of a month: whether all was written, and the ledger that holds from then on.
 pub struct Closing {
@@ -76,7 +75,7 @@ fn print_amounts(
                 point_rows,
                 user_rows,
                 &payee_rows[..agents],
-                ons[stated::VC],
+                ons,
                 balance,
                 cells,
                 told,
@@ -153,8 +152,8 @@ fn close_amounts(
     let u = users.len();
     let m = agents.len() + 1;
     let mut point_rows = [[0i64; 2]; 256];
-    let mut user_rows = [[0i64; 9]; 64];
-    let mut payee_rows = [[0i64; 5]; 17];
+    let mut user_rows = [[0i64; 10]; 64];
+    let mut payee_rows = [[0i64; 6]; 17];
     state_and_close(
         ledger,
         held,

@@ -2,19 +2,20 @@
 use Prim.Native.Nat.{ℕ, suc, _<_}
 use mathlib.Core.Path.{_≡_, refl, sym, ap, ap₂, _∙_}
 use mathlib.Core.List.{List, [], _∷_, _++_, map, map-append, map-map}
-use lib.IntN.{ℤ, pos, _+ℤ_}
+use lib.IntN.{ℤ, pos}
 use lib.ListN.{length, getD, length-map}
 use lib.Seq.{ext-getD}
 use Rattle.ints.specs.Sums.{sumℤ}
-use Rattle.rules.specs.Lists.{eachFrom, length-eachFrom, length-sideBySide, getD-map}
+use Rattle.rules.specs.Lists.{eachFrom, length-eachFrom, getD-map}
 use Rattle.rules.specs.declared.Point.{Point}
 use Rattle.rules.specs.Calendar.{cycleMonth, settledTo}
 use Rattle.rules.specs.Lines.{Agent, User, Lines, agentOf, userOf, kindOf}
 use Rattle.rules.specs.State.{State}
 use Rattle.rules.specs.Charges.{useCharge, overrun, EUSTs, overrunSums, rets, VMEs, CPVs, ns, VDs, newCredits}
-use Rattle.rules.specs.Credits.{VMST, VMPA, ownCredits, VMANTs, agentVCsFrom, VCsFrom, VCs}
+use Rattle.rules.specs.Credits.{VMST, VMPA, VMANTs, agentVCs, VCsFrom, VCs}
+use Rattle.rules.specs.Direct.{ongs, monthCredits}
 use Rattle.rules.proofs.Sizes.{length-EUSTs, length-overrunSums, length-VMEs, length-CPVs, length-ns, length-VDs, length-newCredits}
-use Rattle.rules.proofs.Sizes.{length-ownCredits, length-VMANTs}
+use Rattle.rules.proofs.Sizes.{length-VMANTs, length-agentVCs}
 use Rattle.statement.specs.Statement.{at, pointRow, pointRows, userRowsOf, userRows, agentRowsOf, onsRow, payeeRowsFrom, payeeRows}
 use Rattle.statement.specs.Demand2.{column, ofAgents}
 use Rattle.statement.proofs.Entries.{each-at}
@@ -53,7 +54,7 @@ module _ (s : State) (l : Lines) where
     user-column : (k : ℕ) (col : List ℤ) → length col ≡ length (l .users)
         → ((i : ℕ) (u : User)
         → at (at (EUSTs l) i ∷ at (overrunSums l) i ∷ u .ret ∷ at (VMEs l) i ∷ at (CPVs l) i ∷ at (s .credits) i ∷ at (ns s l) i ∷ at (VDs s l) i
-        ∷ at (newCredits s l) i ∷ []) k ≡ at col i)
+        ∷ at (newCredits s l) i ∷ u .ong ∷ []) k ≡ at col i)
         → column k (userRows s l) ≡ col
     unfolding userRows userRowsOf
     user-column k col e h = by-entry _ (l .users) (userOf []) k col e h
@@ -86,19 +87,22 @@ module _ (s : State) (l : Lines) where
     pub held-after-column : column 8 (userRows s l) ≡ newCredits s l
     held-after-column = user-column 8 (newCredits s l) (length-newCredits s l w) (λ i u. refl)
 
-  -- ---- by payee
-  abbrev vc : List ℤ
-  vc = agentVCsFrom (sumℤ (VDs s l)) (s .month) (l .line) (l .agents)
+    pub ong-column : column 9 (userRows s l) ≡ ongs (l .users)
+    unfolding userRows userRowsOf
+    ong-column = by-line _ (λ (u : User). u .ong) 9 0 (l .users) (λ i u. refl)
 
+  -- ---- by payee
   abbrev agentRows : List (List ℤ)
-  agentRows = agentRowsOf (s .month) (l .line .month) (VMANTs s l) vc (l .agents)
+  agentRows = agentRowsOf (s .month) (l .line .month) (VMANTs s l) (agentVCs s l) (l .agents)
 
   -- that of the agents, and ONS's entry
-  payee-column : (k : ℕ) (col : List ℤ) → column k agentRows ≡ col → column k (payeeRows s l) ≡ col ++ at (onsRow (l .line .ons)) k ∷ []
+  abbrev ons : List ℤ
+  ons = onsRow (l .line .ons) (sumℤ (ongs (l .users)))
+
+  payee-column : (k : ℕ) (col : List ℤ) → column k agentRows ≡ col → column k (payeeRows s l) ≡ col ++ at ons k ∷ []
   unfolding payeeRowsFrom
   payee-column k col e =
-      map-append (λ (row : List ℤ). at row k) agentRows (onsRow (l .line .ons) ∷ [])
-      ∙ ap (λ (xs : List ℤ). xs ++ at (onsRow (l .line .ons)) k ∷ []) e
+      map-append (λ (row : List ℤ). at row k) agentRows (ons ∷ []) ∙ ap (λ (xs : List ℤ). xs ++ at ons k ∷ []) e
 
   pub VMST-column : column 0 (payeeRows s l) ≡ ofAgents VMST (l .agents)
   unfolding agentRowsOf
@@ -116,11 +120,10 @@ module _ (s : State) (l : Lines) where
   unfolding agentRowsOf
   payee-ret-column = payee-column 3 _ (by-line _ (λ (a : Agent). a .ret) 3 0 (l .agents) (λ i a. refl))
 
-  length-agentVCs : length vc ≡ length (l .agents)
-  unfolding agentVCsFrom
-  length-agentVCs =
-      length-sideBySide _+ℤ_ (ownCredits s l) (VMANTs s l) (length-ownCredits s l ∙ sym (length-VMANTs s l)) ∙ length-ownCredits s l
+  pub VC-column : column 4 (payeeRows s l) ≡ monthCredits s l
+  unfolding monthCredits agentRowsOf
+  VC-column = payee-column 4 (agentVCs s l) (by-entry _ (l .agents) (agentOf []) 4 (agentVCs s l) (length-agentVCs s l) (λ i a. refl))
 
-  pub VC-column : column 4 (payeeRows s l) ≡ VCs s l
+  pub shared-column : column 5 (payeeRows s l) ≡ VCs s l
   unfolding VCsFrom agentRowsOf
-  VC-column = payee-column 4 vc (by-entry _ (l .agents) (agentOf []) 4 vc length-agentVCs (λ i a. refl))
+  shared-column = payee-column 5 (agentVCs s l) (by-entry _ (l .agents) (agentOf []) 5 (agentVCs s l) (length-agentVCs s l) (λ i a. refl))

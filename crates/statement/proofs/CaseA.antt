@@ -24,8 +24,8 @@ points-of-a = refl
 
 pub users-of-a :
     userRows (holding (pos 0) (pos 0)) july
-    ≡ (pos 400 ∷ pos 0 ∷ pos 0 ∷ pos 400 ∷ pos 6 ∷ pos 0 ∷ pos 394 ∷ pos 394 ∷ pos 0 ∷ [])
-    ∷ (pos 1600 ∷ pos 0 ∷ pos 0 ∷ pos 1600 ∷ pos 24 ∷ pos 0 ∷ pos 1576 ∷ pos 1576 ∷ pos 0 ∷ [])
+    ≡ (pos 400 ∷ pos 0 ∷ pos 0 ∷ pos 400 ∷ pos 6 ∷ pos 0 ∷ pos 394 ∷ pos 394 ∷ pos 0 ∷ pos 0 ∷ [])
+    ∷ (pos 1600 ∷ pos 0 ∷ pos 0 ∷ pos 1600 ∷ pos 24 ∷ pos 0 ∷ pos 1576 ∷ pos 1576 ∷ pos 0 ∷ pos 0 ∷ [])
     ∷ []
 unfolding userRows userRowsOf floor sumℤ eachFrom sideBySide halfUp orZero useCharge allowance excess overrun ofUser EUSTs overrunSums VMEs
     pvTotal CPVs ns VDs newCredits runningShare partsFrom part
@@ -34,8 +34,8 @@ users-of-a = refl
 -- user 2 holds 2,000: what is left of it stays held
 pub users-of-a-held :
     userRows (holding (pos 0) (pos 2000)) july
-    ≡ (pos 400 ∷ pos 0 ∷ pos 0 ∷ pos 400 ∷ pos 6 ∷ pos 0 ∷ pos 394 ∷ pos 394 ∷ pos 0 ∷ [])
-    ∷ (pos 1600 ∷ pos 0 ∷ pos 0 ∷ pos 1600 ∷ pos 24 ∷ pos 2000 ∷ negsuc 423 ∷ pos 0 ∷ pos 424 ∷ [])
+    ≡ (pos 400 ∷ pos 0 ∷ pos 0 ∷ pos 400 ∷ pos 6 ∷ pos 0 ∷ pos 394 ∷ pos 394 ∷ pos 0 ∷ pos 0 ∷ [])
+    ∷ (pos 1600 ∷ pos 0 ∷ pos 0 ∷ pos 1600 ∷ pos 24 ∷ pos 2000 ∷ negsuc 423 ∷ pos 0 ∷ pos 424 ∷ pos 0 ∷ [])
     ∷ []
 unfolding userRows userRowsOf floor sumℤ eachFrom sideBySide halfUp orZero useCharge allowance excess overrun ofUser EUSTs overrunSums VMEs
     pvTotal CPVs ns VDs newCredits runningShare partsFrom part
@@ -43,9 +43,9 @@ users-of-a-held = refl
 
 pub payees-of-a :
     payeeRows (holding (pos 0) (pos 0)) july
-    ≡ (pos 1000 ∷ pos 0 ∷ negsuc 368 ∷ pos 4 ∷ pos 635 ∷ [])
-    ∷ (pos 1970 ∷ pos 2 ∷ negsuc 736 ∷ pos 0 ∷ pos 1235 ∷ [])
-    ∷ (pos 0 ∷ pos 0 ∷ pos 0 ∷ pos 0 ∷ pos 100 ∷ [])
+    ≡ (pos 1000 ∷ pos 0 ∷ negsuc 368 ∷ pos 4 ∷ pos 635 ∷ pos 635 ∷ [])
+    ∷ (pos 1970 ∷ pos 2 ∷ negsuc 736 ∷ pos 0 ∷ pos 1235 ∷ pos 1235 ∷ [])
+    ∷ (pos 0 ∷ pos 0 ∷ pos 0 ∷ pos 0 ∷ pos 100 ∷ pos 100 ∷ [])
     ∷ []
 unfolding payeeRowsFrom agentRowsOf floor sumℤ eachFrom sideBySide halfUp orZero useCharge allowance excess overrun ofUser EUSTs overrunSums VMEs
     pvTotal CPVs ns VDs newCredits runningShare partsFrom part monthOfYear cycleMonth settledTo

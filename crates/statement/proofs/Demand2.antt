@@ -59,11 +59,13 @@ module _ (c : StateCall) (o : Promised c) (a : c .stated .answer ≡ Accepted) w
         n = of-users 6 (col.n-column s l w);
         VD = of-users 7 (col.VD-column s l w);
         held-after = of-users 8 (col.held-after-column s l w);
+        direct-charge = of-users 9 (col.ong-column s l w);
         VMST-is = of-payees 0 (col.VMST-column s l);
         VMPA-is = of-payees 1 (col.VMPA-column s l);
         VMANT = of-payees 2 (col.VMANT-column s l);
         payee-ret = of-payees 3 (col.payee-ret-column s l);
         VC = of-payees 4 (col.VC-column s l);
+        shared = of-payees 5 (col.shared-column s l);
       }
 
 pub Demand-2-stating : (c : Called) → c .result .answer ≡ Accepted → Demand2Stating (plain c) (stateOf (plain c .ledger) (plain c .held))

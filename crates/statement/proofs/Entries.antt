@@ -25,7 +25,8 @@ length-userRows users uses over vme cpv held vd new = length-eachFrom 0 _ (map u
 -- the row of the user at i, as the loop writes it
 abbrev pub userRow : List (List ℤ) → (uses over vme cpv held vd new : List ℤ) → ℕ → List ℤ
 userRow users uses over vme cpv held vd new i =
-    at uses i ∷ at over i ∷ at (getD users i []) 2 ∷ at vme i ∷ at cpv i ∷ at held i ∷ (at vme i -ℤ at cpv i -ℤ at held i) ∷ at vd i ∷ at new i ∷ []
+    at uses i ∷ at over i ∷ at (getD users i []) 2 ∷ at vme i ∷ at cpv i ∷ at held i ∷ (at vme i -ℤ at cpv i -ℤ at held i)
+    ∷ at vd i ∷ at new i ∷ at (getD users i []) 3 ∷ []
 
 module _ {users : List (List ℤ)} {uses over vme cpv held vd new : List ℤ} {out : List (List ℤ)}
     (r : UserColumns users uses over vme cpv held vd new out) (i : ℕ) (h : i < length users) where
@@ -50,7 +51,7 @@ length-agentRows last month vmant vc agents = length-eachFrom 0 _ (map agentOf a
 
 abbrev pub agentRow : ℤ → ℤ → (vmant vc : List ℤ) → List ℤ → ℕ → List ℤ
 agentRow last month vmant vc line i =
-    VMST (agentOf line) ∷ VMPA (settledTo last month) (cycleMonth month) (agentOf line) ∷ at vmant i ∷ at line 6 ∷ at vc i ∷ []
+    VMST (agentOf line) ∷ VMPA (settledTo last month) (cycleMonth month) (agentOf line) ∷ at vmant i ∷ at line 6 ∷ at vc i ∷ at vc i ∷ []
 
 pub agent-row-at : (last month : ℤ) (vmant vc : List ℤ) (agents : List (List ℤ)) (i : ℕ) → i < length agents
     → getD (agentRowsOf last month vmant vc (map agentOf agents)) i [] ≡ agentRow last month vmant vc (getD agents i []) i

@@ -10,10 +10,11 @@ use Rattle.rules.specs.declared.Answer.the-variants.{Accepted, Refused}
 use Rattle.rules.specs.Verdict.{Verdict, accepted}
 use Rattle.rules.specs.Lines.{Agent}
 use Rattle.rules.specs.Charges.{VDs}
-use Rattle.rules.specs.Credits.{VMANTs, agentVCsFrom}
+use Rattle.rules.specs.Credits.{VMANTs, agentVCs}
 use Rattle.ints.specs.Sums.{sumℤ}
 use Rattle.rules.specs.Lists.{length-eachFrom}
 use Rattle.rules.specs.State.{State}
+use Rattle.rules.specs.Direct.{ongs}
 use Rattle.rules.specs.Refusals.{refusal}
 use Rattle.rules.specs.Calls.{verdictOf, stateOf}
 use Rattle.rules.proofs.Passed.{Passed, slices-accepted, passed}
@@ -67,9 +68,8 @@ module _ (c : StateCall) where
   pub payee-count : length (payeeRows s (c .lines)) ≡ length (c .lines .agents) + 1
   unfolding payeeRowsFrom
   payee-count =
-      let vc = agentVCsFrom (sumℤ (VDs s (c .lines))) (s .month) (c .lines .line) (c .lines .agents) in
-      let rows = agentRowsOf (s .month) (c .lines .line .month) (VMANTs s (c .lines)) vc (c .lines .agents) in
-      length-append rows (onsRow (c .lines .line .ons) ∷ []) ∙ ap (λ (n : ℕ). n + 1) (agent-count _ _ _ _ (c .lines .agents))
+      let rows = agentRowsOf (s .month) (c .lines .line .month) (VMANTs s (c .lines)) (agentVCs s (c .lines)) (c .lines .agents) in
+      length-append rows (onsRow (c .lines .line .ons) (sumℤ (ongs (c .lines .users))) ∷ []) ∙ ap (λ (n : ℕ). n + 1) (agent-count _ _ _ _ (c .lines .agents))
 
   rooms : Agrees (rowRooms s n (length (c .lines .points))) short
   rooms = rooms-agree s n (length (c .lines .points))

@@ -6,20 +6,24 @@ use mathlib.Core.List.{List, [], map}
 use lib.IntN.{ℤ, pos}
 use lib.ListN.{length, getD, length-map}
 use lib.Signed.{ltZ}
-use Rattle.ints.specs.Range.{eqZ}
+use Rattle.ints.specs.Adding.{Summable}
+use Rattle.ints.specs.Range.{Within, eqZ}
 use Rattle.ints.specs.Sums.{sumℤ}
 use Rattle.rules.specs.declared.Ledger.{Ledger}
 use Rattle.rules.specs.declared.MonthLine.{MonthLine}
 use Rattle.rules.specs.Verdict.{Verdict}
 use Rattle.rules.specs.Lists.{getD-map}
+use Rattle.rules.specs.Most.{mostDirect}
 use Rattle.rules.specs.Lines.{Lines, agentOf, userOf, pointOf, badPoint}
 use Rattle.rules.specs.State.{State}
 use Rattle.rules.specs.Charges.{pvs, pvTotal, EUSTs}
 use Rattle.rules.specs.Credits.{pbs}
+use Rattle.rules.specs.Direct.{ongs}
 use Rattle.rules.specs.Refusals.{pointTest, countTests, stateTests, linesBeforePoints, lineTests, weightTests, sumTests, refusal}
 use Rattle.rules.specs.Tested.{Tested}
 use Rattle.rules.proofs.Tests.{then-accepted, when-accepted, when-then, each-from-1}
 use Rattle.rules.proofs.Passed.{passed, tested}
+use Rattle.rules.proofs.BoundsDirect.{DirectBounds, bounds-direct}
 use Rattle.charges.specs.declared.scan.Sums.{Sums}
 use Rattle.charges.specs.declared.month.Bills.{Bills}
 use Rattle.charges.specs.Month.{Month, firstUses, firstOverruns}
@@ -58,3 +62,13 @@ module _ {ledger : Ledger} {line : MonthLine} {agents users : List (List ℤ)} {
 
   pub payable : Payable (bills .total) (ledger .month) line (map agentOf agents)
   payable = rw (w .last-is, w .billed .total) (payable-passed st l (w .one-each) (passed st short l (w .accepts)))
+
+  -- ---- the direct charges
+  direct-bounds : DirectBounds l
+  direct-bounds = bounds-direct (passed st short l (w .accepts))
+
+  pub direct-summable : Summable (ongs (map userOf users))
+  direct-summable = direct-bounds .summable
+
+  pub direct-within : Within (pos 0) (pos mostDirect) (sumℤ (ongs (map userOf users)))
+  direct-within = direct-bounds .total

@@ -25,6 +25,6 @@ abbrev pub userRowsBy : List (List ℤ) → (uses over vme cpv held vd new : Lis
 userRowsBy users uses over vme cpv held vd new = userRowsOf uses over vme cpv held (nsFrom vme cpv held) vd new (map userOf users)
 
 -- ---- of the payees: the balance, and the rows
-pub record StatesPayees (debits last : ℤ) (line : MonthLine) (agents : List Agent) (balance : ℤ) (rows : List (List ℤ)) : Type 0 where
+pub record StatesPayees (debits last : ℤ) (line : MonthLine) (agents : List Agent) (direct balance : ℤ) (rows : List (List ℤ)) : Type 0 where
   pub SMSE : balance ≡ SMSEFrom debits last line agents
-  pub rows-are : rows ≡ payeeRowsFrom debits last line agents
+  pub rows-are : rows ≡ payeeRowsFrom debits last line agents direct

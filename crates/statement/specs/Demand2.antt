@@ -11,6 +11,7 @@ use Rattle.rules.specs.Lines.{Agent, kindOf}
 use Rattle.rules.specs.State.{State}
 use Rattle.rules.specs.Charges.{useCharge, overrun, EUSTs, overrunSums, rets, VMEs, CPVs, ns, VDs, newCredits}
 use Rattle.rules.specs.Credits.{VMST, VMPA, SMSE, VMANTs, VCs}
+use Rattle.rules.specs.Direct.{ongs, monthCredits}
 use Rattle.statement.specs.Statement.{at}
 use Rattle.statement.specs.Demand1.{StateCall}
 
@@ -38,6 +39,7 @@ pub record Demand2Stating (c : StateCall) (s : State) : Type 0 where
   pub n : column 6 (take (length (c .lines .users)) (c .usersLeft)) ≡ ns s (c .lines)
   pub VD : column 7 (take (length (c .lines .users)) (c .usersLeft)) ≡ VDs s (c .lines)
   pub held-after : column 8 (take (length (c .lines .users)) (c .usersLeft)) ≡ newCredits s (c .lines)
+  pub direct-charge : column 9 (take (length (c .lines .users)) (c .usersLeft)) ≡ ongs (c .lines .users)
   -- by payee, ONS last
   pub VMST-is : column 0 (take (length (c .lines .agents) + 1) (c .payeesLeft)) ≡ ofAgents VMST (c .lines .agents)
   pub VMPA-is :
@@ -45,4 +47,5 @@ pub record Demand2Stating (c : StateCall) (s : State) : Type 0 where
       column 1 (take (length (c .lines .agents) + 1) (c .payeesLeft)) ≡ ofAgents (VMPA (settledTo (s .month) month) (cycleMonth month)) (c .lines .agents)
   pub VMANT : column 2 (take (length (c .lines .agents) + 1) (c .payeesLeft)) ≡ VMANTs s (c .lines) ++ pos 0 ∷ []
   pub payee-ret : column 3 (take (length (c .lines .agents) + 1) (c .payeesLeft)) ≡ ofAgents (λ a. a .ret) (c .lines .agents)
-  pub VC : column 4 (take (length (c .lines .agents) + 1) (c .payeesLeft)) ≡ VCs s (c .lines)
+  pub VC : column 4 (take (length (c .lines .agents) + 1) (c .payeesLeft)) ≡ monthCredits s (c .lines)
+  pub shared : column 5 (take (length (c .lines .agents) + 1) (c .payeesLeft)) ≡ VCs s (c .lines)

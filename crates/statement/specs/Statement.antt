@@ -4,7 +4,7 @@ use Prim.Native.Nat.{ℕ, _+_}
 use mathlib.Core.Path.{_≡_}
 use mathlib.Core.List.{List, [], _∷_, _++_, map}
 use lib.Dec.{ltb}
-use lib.IntN.{ℤ, pos}
+use lib.IntN.{ℤ, pos, _+ℤ_}
 use lib.ListN.{length, drop, getD}
 use Rattle.ints.specs.Sums.{sumℤ}
 use Rattle.rules.specs.declared.Answer.the-variants.{Accepted, Refused}
@@ -18,6 +18,7 @@ use Rattle.rules.specs.Lines.{Agent, User, Lines, kindOf}
 use Rattle.rules.specs.State.{State}
 use Rattle.rules.specs.Charges.{useCharge, overrun, overrunSums, EUSTs, VMEs, CPVs, ns, VDs, newCredits}
 use Rattle.rules.specs.Credits.{VMST, VMPA, SMSE, VMANTsFrom, agentVCsFrom}
+use Rattle.rules.specs.Direct.{ongs}
 use Rattle.rules.specs.Refusals.{refusal}
 use Rattle.rules.specs.Calls.{stateOf}
 use Rattle.statement.specs.declared.Stated.{Stated}
@@ -34,31 +35,31 @@ pointRow users p = useCharge p ∷ overrun (kindOf users (p .user)) p ∷ []
 unfoldable pub pointRows : Lines → List (List ℤ)
 pointRows l = map (pointRow (l .users)) (l .points)
 
--- a user: its entry of every column, with ret of its line
+-- a user: its entry of every column, with ret and ong of its line
 unfoldable pub userRowsOf : (EUST overruns VME CPV before n VD after : List ℤ) → List User → List (List ℤ)
 userRowsOf EUST overruns VME CPV before n VD after users =
-    eachFrom 0 (λ i u. at EUST i ∷ at overruns i ∷ u .ret ∷ at VME i ∷ at CPV i ∷ at before i ∷ at n i ∷ at VD i ∷ at after i ∷ []) users
+    eachFrom 0 (λ i u. at EUST i ∷ at overruns i ∷ u .ret ∷ at VME i ∷ at CPV i ∷ at before i ∷ at n i ∷ at VD i ∷ at after i ∷ u .ong ∷ []) users
 
--- EUST, overruns, ret, VME, CPV (1.2.1.1.2), held credit before, n, debit VD, held credit after (1.2.2)
+-- EUST, overruns, ret, VME, CPV (1.2.1.1.2), held credit before, n, debit VD, held credit after (1.2.2), direct charge (paper 02, Q-1)
 unfoldable pub userRows : State → Lines → List (List ℤ)
 userRows s l = userRowsOf (EUSTs l) (overrunSums l) (VMEs l) (CPVs l) (s .credits) (ns s l) (VDs s l) (newCredits s l) (l .users)
 
--- an agent: VMST, VMPA, VMANT, ret, credit VC (6)
+-- an agent: VMST, VMPA, VMANT, ret, credit VC (6), and its shared part, which is all of it
 unfoldable pub agentRowsOf : ℤ → ℤ → (VMANT VC : List ℤ) → List Agent → List (List ℤ)
 agentRowsOf last month VMANT VC agents =
-    eachFrom 0 (λ i a. VMST a ∷ VMPA (settledTo last month) (cycleMonth month) a ∷ at VMANT i ∷ a .ret ∷ at VC i ∷ []) agents
+    eachFrom 0 (λ i a. VMST a ∷ VMPA (settledTo last month) (cycleMonth month) a ∷ at VMANT i ∷ a .ret ∷ at VC i ∷ at VC i ∷ []) agents
 
--- ONS: its credit is ons, and nothing else is its own
-abbrev pub onsRow : ℤ → List ℤ
-onsRow ons = pos 0 ∷ pos 0 ∷ pos 0 ∷ pos 0 ∷ ons ∷ []
+-- ONS: its credit is ons and every direct charge (10), its shared part is ons, and nothing else is its own
+abbrev pub onsRow : ℤ → ℤ → List ℤ
+onsRow ons direct = pos 0 ∷ pos 0 ∷ pos 0 ∷ pos 0 ∷ (ons +ℤ direct) ∷ ons ∷ []
 
--- the agents in order, and then ONS; from the sum of VD and the last closed month, and of a month on a state
-unfoldable pub payeeRowsFrom : ℤ → ℤ → MonthLine → List Agent → List (List ℤ)
-payeeRowsFrom debits last line agents =
-    agentRowsOf last (line .month) (VMANTsFrom debits last line agents) (agentVCsFrom debits last line agents) agents ++ onsRow (line .ons) ∷ []
+-- the agents in order, and then ONS; from the sum of VD, the last closed month and the sum of the direct charges, and of a month on a state
+unfoldable pub payeeRowsFrom : ℤ → ℤ → MonthLine → List Agent → ℤ → List (List ℤ)
+payeeRowsFrom debits last line agents direct =
+    agentRowsOf last (line .month) (VMANTsFrom debits last line agents) (agentVCsFrom debits last line agents) agents ++ onsRow (line .ons) direct ∷ []
 
 abbrev pub payeeRows : State → Lines → List (List ℤ)
-payeeRows s l = payeeRowsFrom (sumℤ (VDs s l)) (s .month) (l .line) (l .agents)
+payeeRows s l = payeeRowsFrom (sumℤ (VDs s l)) (s .month) (l .line) (l .agents) (sumℤ (ongs (l .users)))
 
 -- ---- why it comes back
 -- the lengths of the slices that a statement is lent: held credits, and the rows of points, users and payees

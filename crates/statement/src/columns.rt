@@ -5,7 +5,7 @@ pub const USE_CHARGE: usize = 0;
 
 pub const OVERRUN: usize = 1;
 
-// EUST,overruns,ret,VME,CPV,held credit before,n,VD,held credit after
+// EUST,overruns,ret,VME,CPV,held credit before,n,VD,held credit after,direct charge
 pub const EUST: usize = 0;
 
 pub const OVERRUNS: usize = 1;
@@ -24,7 +24,9 @@ pub const VD: usize = 7;
 
 pub const HELD_AFTER: usize = 8;
 
-// VMST,VMPA,VMANT,ret,VC
+pub const ONG: usize = 9;
+
+// VMST,VMPA,VMANT,ret,VC,shared part of VC
 pub const VMST: usize = 0;
 
 pub const VMPA: usize = 1;
@@ -34,3 +36,5 @@ pub const VMANT: usize = 2;
 pub const PAYEE_RET: usize = 3;
 
 pub const VC: usize = 4;
+
+pub const SHARED: usize = 5;

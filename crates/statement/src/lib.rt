@@ -31,9 +31,9 @@ use rules::UserLine;
 // A point's, a user's and a payee's row: its amounts in the order that `columns` names.
 pub type PointRow = [i64; 2];
 
-pub type UserRow = [i64; 9];
+pub type UserRow = [i64; 10];
 
-pub type PayeeRow = [i64; 5];
+pub type PayeeRow = [i64; 6];
 
 // The answer, with the balance SMSE of an accepted month, 0 of a refused one.
 pub struct Stated {
@@ -126,7 +126,8 @@ fn write(
     points::rows(users, points, point_rows);
     let pv = credits::columns::pv_total(agents);
     users::state_users(users, s, bills, pv, held, user_rows);
-    payees::state_payees(bills.total, ledger.month, line, agents, payee_rows)
+    let direct = charges::direct::total(users);
+    payees::state_payees(bills.total, ledger.month, line, agents, direct, payee_rows)
 }
 
 // The month whose first 1,024 points are these lines; n counts all of them.

@@ -46,6 +46,7 @@ fn rows(
             due,
             debits[i],
             credits[i],
+            line[columns::ONG],
         ];
         out[i] = row;
         i += 1;

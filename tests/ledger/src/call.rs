@@ -170,7 +170,8 @@ impl Outcome {
         // no entry of cells and none of work is changed that should not be
         let mut digest = self.held.iter().fold(mixed(mixed(0, 0), 0), |h, &credit| mixed(h, credit as u64));
         if let Some(Amounts { charges, credits }) = &self.amounts {
-            digest = credits.vc.iter().chain(&charges.vd).fold(digest, |h, &total| mixed(h, total as u64));
+            let billed = charges.billed();
+            digest = credits.credit.iter().chain(&billed).fold(digest, |h, &total| mixed(h, total as u64));
         }
         format!("{} {} {} {} {} {}\n", answer.number, answer.place, users, agents, month, digest)
     }

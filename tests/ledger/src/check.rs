@@ -4,7 +4,7 @@ use crate::call::{Call, Outcome};
 use rateio_reference::amounts::Amounts;
 use rateio_reference::ledger::Ledger;
 use rateio_reference::refusals::Refusal;
-use rateio_reference::table::is_table;
+use rateio_reference::table::is_billed;
 
 /// Numbers of 8 bytes, the lowest first.
 struct Numbers<'a>(&'a [u8]);
@@ -49,7 +49,7 @@ fn record(call: &Call, outcome: &Outcome, numbers: &mut Numbers) -> Result<(), S
     }
     if let Some(Amounts { charges, credits }) = &outcome.amounts {
         let cells = numbers.take(credits.vc.len() * call.users())?;
-        is_table(&credits.vc, &charges.vd, &cells)?;
+        is_billed(&credits.vc, &charges.vd, &charges.ong, &cells)?;
     }
     Ok(())
 }

@@ -88,14 +88,23 @@ impl Kind {
         Agent { number, pb, pv, afs, rfs, pa: self.correction(rng), ret: self.correction(rng) }
     }
 
+    /// A direct charge, which no correction and no credit of the month touches.
+    fn direct(self, rng: &mut Rng) -> i64 {
+        match self {
+            Kind::Past if rng.chance(10) => rng.pick(&[-1, MAX_AMOUNT + 1]),
+            _ if rng.chance(30) => 0,
+            _ => self.amount(rng),
+        }
+    }
+
     fn user(self, rng: &mut Rng, number: i64) -> User {
-        User { number, kind: number, ret: self.correction(rng) }
+        User { number, kind: number, ret: self.correction(rng), ong: self.direct(rng) }
     }
 
     /// A closing of three agents, four points and three users, beside a fourth who owes at any rate: so the months of the others are closed.
     fn closing(self, rng: &mut Rng) -> Call {
         let month = if self == Kind::Ends { rng.pick(&[200_001, 209_912]) } else { any_month(rng) };
-        let debtor = User { number: 4, kind: CONSUMER, ret: self.amount(rng).max(1) };
+        let debtor = User { number: 4, kind: CONSUMER, ret: self.amount(rng).max(1), ong: self.direct(rng) };
         let mut call = Call::close(MonthLines {
             month,
             ons: self.amount(rng),
@@ -112,6 +121,7 @@ impl Kind {
 pub fn kinds(rng: &mut Rng, count: usize) -> Vec<Call> {
     let calls: Vec<Call> = KINDS.iter().flat_map(|&kind| vec![kind; count]).map(|kind| kind.closing(rng)).collect();
     assert!(calls.iter().map(compensated).sum::<usize>() > 2 * count, "compensation passes charges");
+    assert!(calls.iter().map(beside_credit).sum::<usize>() > 2 * count, "direct charges stand beside credits");
     calls
 }
 
@@ -119,6 +129,12 @@ pub fn kinds(rng: &mut Rng, count: usize) -> Vec<Call> {
 fn compensated(call: &Call) -> usize {
     let amounts = State::new().run(call).amounts;
     amounts.map_or(0, |Amounts { charges, .. }| (0..3).filter(|&j| charges.cpv[j] > charges.vme[j]).count())
+}
+
+/// How many users of a month that is closed have a direct charge and a credit left.
+fn beside_credit(call: &Call) -> usize {
+    let amounts = State::new().run(call).amounts;
+    amounts.map_or(0, |Amounts { charges, .. }| (0..3).filter(|&j| charges.ong[j] > 0 && charges.held[j] > 0).count())
 }
 
 /// A month of consumers, the second of whom owes something, with pa of 25, −1 and 0 and these points: tp, mp, vp at full tariff.
@@ -130,7 +146,7 @@ fn consumers(month: i64, ret: i64, points: &[[i64; 3]]) -> MonthLines {
         agents: [(1, 25), (2, -1), (3, 0)]
             .map(|(number, pa)| Agent::from_columns([number, 1, 0, 0, 0, pa, 0]))
             .to_vec(),
-        users: [(1, ret), (2, 1000), (3, 0)].map(|(number, ret)| User { number, kind: CONSUMER, ret }).to_vec(),
+        users: [(1, ret), (2, 1000), (3, 0)].map(|(number, ret)| User { number, kind: CONSUMER, ret, ong: 0 }).to_vec(),
         points: points.iter().zip(1..).map(point).collect(),
     }
 }

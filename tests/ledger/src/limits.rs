@@ -5,7 +5,7 @@ use crate::orders::due;
 use rateio_reference::ledger::Ledger;
 use rateio_reference::lines::{Agent, MonthLines, Point, User, CONSUMER};
 use rateio_reference::months::{moved, sound_month, Counts, Style, STYLES};
-use rateio_reference::refusals::{Refusal, MAX_HELD};
+use rateio_reference::refusals::{Refusal, MAX_AMOUNT, MAX_HELD};
 use rateio_reference::rng::Rng;
 
 /// A plain month of consumers, each point of the next user in turn.
@@ -15,7 +15,7 @@ pub fn plain(users: usize, agents: usize, points: usize) -> MonthLines {
         month: 202_407,
         ons: 100,
         agents: (1..=agents as i64).map(|n| Agent::from_columns([n, 1000 + n, n % 3, 5, 2, 25 - n, -n])).collect(),
-        users: (1..=users as i64).map(|n| User::from_columns([n, CONSUMER, 7 * (n % 4)])).collect(),
+        users: (1..=users as i64).map(|n| User::from_columns([n, CONSUMER, 7 * (n % 4), 11 * (n % 3)])).collect(),
         points: (0..points as i64).map(|k| Point::from_columns([at(k), 5 + k, 3, 0, 50, 9, 8, 10, 8])).collect(),
     }
 }
@@ -103,6 +103,31 @@ pub fn skipped() -> Vec<Call> {
             let mut call = Call::close(MonthLines { month, ..plain(2, 12, 2) });
             call.ledger.month = last;
             calls.push(call);
+        }
+    }
+    calls
+}
+
+/// Direct charges at and beside their limits: of one user of each kind alone and of all together, of users who owe, who
+/// have a credit left, and of a month in which nobody owes anything.
+pub fn direct() -> Vec<Call> {
+    let most = MAX_HELD as i64;
+    let mut calls = Vec::new();
+    for ong in [i64::MIN, -MAX_AMOUNT, -1, 0, 1, MAX_AMOUNT - 1, MAX_AMOUNT, MAX_AMOUNT + 1, i64::MAX] {
+        for k in 0..4 {
+            for credits in [[0, 0, 0], [1, 50, 1_000_000], [most, 0, most], [most; 3]] {
+                let mut lines = plain(3, 2, 3);
+                lines.points.iter_mut().for_each(|point| (point.tf, point.df, point.mf, point.vf) = (0, 0, 0, 0));
+                for (j, user) in lines.users.iter_mut().enumerate() {
+                    (user.kind, user.ong) = (j as i64 + 1, if k == j || k == 3 { ong } else { 0 });
+                }
+                let mut call = Call::close(lines);
+                call.held[..3].copy_from_slice(&credits);
+                if (0..=MAX_AMOUNT).contains(&ong) && credits == [most; 3] {
+                    due(&call, Refusal::new(10, 0), "no debit");
+                }
+                calls.push(call);
+            }
         }
     }
     calls
@@ -224,6 +249,7 @@ pub fn places() -> Vec<Call> {
         add(&lines, place, 4, &|call| call.held[place - 1] = -1);
         add(&lines, place, 4, &|call| call.held[place - 1..512].fill(MAX_HELD as i64 + 1));
         add(&lines, place, 5, &|call| call.lines.users[place - 1].kind = 0);
+        add(&lines, place, 5, &|call| call.lines.users[place - 1..].iter_mut().for_each(|user| user.ong = -1));
         add(&lines, place, 5, &|call| call.lines.users[place - 1..].iter_mut().for_each(|user| user.number += 1));
     }
     let lines = plain(2, 256, 3);
@@ -306,7 +332,7 @@ pub fn values() -> Vec<Call> {
                     lines.agents[line] = Agent::from_columns(columns);
                 });
             }
-            for column in 0..3 {
+            for column in 0..4 {
                 add(&|lines| {
                     let mut columns = lines.users[line].columns();
                     columns[column] = value;
@@ -341,7 +367,7 @@ pub fn garbage(rng: &mut Rng) -> Vec<Call> {
             lines.month = any(rng);
             lines.ons = any(rng);
             lines.agents = (0..agents).map(|_| Agent::from_columns([(); 7].map(|()| any(rng)))).collect();
-            lines.users = (0..users).map(|_| User::from_columns([(); 3].map(|()| any(rng)))).collect();
+            lines.users = (0..users).map(|_| User::from_columns([(); 4].map(|()| any(rng)))).collect();
         }
         let mut call = Call::close(lines);
         call.ledger.users += u64::from(k % 5 == 0);

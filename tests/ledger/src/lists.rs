@@ -56,6 +56,7 @@ pub fn parts(vectors: &str) -> Vec<Vec<List>> {
         List::new("months", limits::months()),
         List::new("skipped", limits::skipped()),
         List::new("held credits", limits::credits()),
+        List::new("direct charges", limits::direct()),
         List::new("past the limit", chains::past_the_limit()),
         List::new("counts", limits::counts(rng)),
         List::new("values", limits::values()),

@@ -4,7 +4,7 @@ use crate::call::{Call, State};
 use rateio_reference::faults;
 use rateio_reference::lines::{Point, GENERATOR};
 use rateio_reference::months::{Style, STYLES};
-use rateio_reference::refusals::{Refusal, MAX_HELD};
+use rateio_reference::refusals::{Refusal, MAX_AMOUNT, MAX_HELD};
 use rateio_reference::rng::Rng;
 
 /// Every fault of a month at the first, a middle and the last line of its block, in months of every style.
@@ -52,7 +52,9 @@ fn breaks() -> Vec<Break> {
         with("first agent", (5, 1), |c| c.lines.agents[0].number = 2),
         with("last agent", (5, 5), |c| c.lines.agents[4].ret = i64::MIN),
         with("first user", (5, 1), |c| c.lines.users[0].number = 0),
+        with("second user's direct charge", (5, 2), |c| c.lines.users[1].ong = -1),
         with("last user", (5, 5), |c| c.lines.users[4].ret = i64::MAX),
+        with("last user's direct charge", (5, 5), |c| c.lines.users[4].ong = MAX_AMOUNT + 1),
         with("first point out of range", (5, 1), |c| c.lines.points[0].vp = -1),
         with("second point of no user", (6, 2), |c| c.lines.points[1].at = 6),
         with("third point against its kind", (7, 3), |c| c.lines.points[2] = generator_with_mf(c)),

@@ -106,15 +106,16 @@ fn ends_at_every_place(text: &[u8], compare: &mut dyn FnMut(&[u8])) {
     }
 }
 
-/// A text written as other systems write it.
+/// A text written as other systems write it, or as it was before its user lines had the column `ong`.
 fn foreign(rng: &mut Rng, text: &[u8]) -> Vec<u8> {
     let mut text = text.to_vec();
-    match rng.below(6) {
+    match rng.below(7) {
         0 => text = String::from_utf8(text).expect("ASCII").replace('\n', "\r\n").into_bytes(),
         1 => drop(text.splice(0..0, *b"\xef\xbb\xbf")),
         2 => drop(text.pop()),
         3 => text.push(b'\n'),
         4 => text.extend(b"month"),
+        5 => text = String::from_utf8(text).expect("ASCII").replace(",ong", "").into_bytes(),
         _ => text = String::from_utf8(text).expect("ASCII").replace(',', ";").into_bytes(),
     }
     text

@@ -70,7 +70,7 @@ fn file(text: &[u8], mut at: usize) -> Passed {
     at = names(text, at, b"month,ons")?;
     at = line(text, at, 2)?;
     at = block(text, at, b"agent,pb,pv,afs,rfs,pa,ret", 7)?;
-    at = block(text, at, b"user,kind,ret", 3)?;
+    at = block(text, at, b"user,kind,ret,ong", 4)?;
     at = block(text, at, b"at,tp,tf,dp,df,mp,mf,vp,vf", 9)?;
     if at == text.len() || text[at] == b'm' {
         Ok(at)

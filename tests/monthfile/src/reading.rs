@@ -126,9 +126,9 @@ fn short_cases() -> Vec<Case> {
         }
     }
     let two = two_files();
-    for at in [0, 1, 183, 184, 185, 255] {
+    for at in [0, 1, 191, 192, 193, 255] {
         add(How::AsItIs, at, [2, 2, 2], &two);
-        add(How::AsItIs, at, [2, 2, 2], &two[..184]);
+        add(How::AsItIs, at, [2, 2, 2], &two[..192]);
     }
     for _ in 0..150 {
         let text = texts::damaged(&mut rng, sample::INPUT.as_bytes());
@@ -185,8 +185,8 @@ fn long_cases() -> Vec<Case> {
     let none = texts::file(&MonthLines { month: -1, ons: 0, agents: vec![], users: vec![], points: vec![] });
     let two = two_files();
     let mut cases = vec![
-        Case { how: How::Cut, at: 184, room: [2, 1, 2], text: two.clone() },
-        Case { how: How::Cut, at: 195, room: [2, 2, 1], text: texts::cr_lf(&two) },
+        Case { how: How::Cut, at: 192, room: [2, 1, 2], text: two.clone() },
+        Case { how: How::Cut, at: 203, room: [2, 2, 1], text: texts::cr_lf(&two) },
         Case { how: How::Changed, at: 0, room: [1, 1, 1], text: texts::cr_lf(&none) },
         Case { how: How::Changed, at: 0, room: [1, 1, 1], text: none },
     ];

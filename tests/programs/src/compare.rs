@@ -37,6 +37,10 @@ pub struct Counts {
     /// Closed months before which months of their own cycle were skipped, by where the last closed one lies: in that
     /// cycle, in the one before it, in an earlier one.
     pub skipped: [usize; 3],
+    /// Closed months with direct charges, by the kind of a user that has one; and those in which a user with a direct
+    /// charge has a credit left.
+    pub direct: [usize; 3],
+    pub direct_beside_credit: usize,
     pub cells: usize,
     /// By the refusal's number.
     pub refused: [usize; 13],
@@ -64,6 +68,11 @@ impl Counts {
                         self.skipped[(cycle(month) - cycle(last)).min(2) as usize] += 1;
                     }
                     last = month;
+                    for (kind, count) in (1..).zip(&mut self.direct) {
+                        *count += usize::from(closed.lines.users.iter().any(|user| user.kind == kind && user.ong > 0));
+                    }
+                    let mut both = closed.ong().iter().zip(closed.held());
+                    self.direct_beside_credit += usize::from(both.any(|(&ong, &held)| ong > 0 && held > 0));
                     self.cells += closed.vc().len() * closed.vd().len();
                 }
             }
@@ -189,11 +198,10 @@ pub fn report(settle: &Program, consulta: &Program, count: u64, listed: &[Input]
     let start = Instant::now();
     let (counts, differences) = compare(settle, consulta, &inputs::input, 0..count, ENOUGH, folder)?;
     no_differences("input", &counts, &differences, folder)?;
-    let Counts { inputs, bytes, in_pieces, sizes, line_ends, files, closed, with_credit, skipped, cells, refused } =
-        counts;
+    let Counts { sizes, line_ends, skipped, direct, direct_beside_credit, refused, .. } = counts;
     println!(
         "programs: {} inputs through each ({} bytes, {} inputs in pieces), {} files",
-        inputs, bytes, in_pieces, files
+        counts.inputs, counts.bytes, counts.in_pieces, counts.files
     );
     let [empty, most, one_more, longer] = sizes;
     println!(
@@ -201,11 +209,18 @@ pub fn report(settle: &Program, consulta: &Program, count: u64, listed: &[Input]
         empty, most, one_more, longer
     );
     print_line_ends(line_ends);
-    println!("programs: {} months closed ({} with credits held before), {} cells", closed, with_credit, cells);
+    println!(
+        "programs: {} months closed ({} with credits held before), {} cells",
+        counts.closed, counts.with_credit, counts.cells
+    );
     let [in_cycle, before, earlier] = skipped;
     println!(
         "programs: with months of their cycle skipped {} closed after one of it, {} after the cycle before, {} after an earlier",
         in_cycle, before, earlier
+    );
+    println!(
+        "programs: with direct charges of distributors {} closed, of consumers {}, of generators {}; {} beside a credit that was left",
+        direct[0], direct[1], direct[2], direct_beside_credit
     );
     let by_number: Vec<String> = (1..13).map(|number| format!("{}: {}", number, refused[number])).collect();
     println!("programs: refusals by number {}", by_number.join(", "));
@@ -217,6 +232,9 @@ pub fn report(settle: &Program, consulta: &Program, count: u64, listed: &[Input]
     }
     if sizes.contains(&0) || line_ends.contains(&0) || skipped.contains(&0) {
         return Err("one of these sizes, line ends or skipped months never came up".to_string());
+    }
+    if direct.contains(&0) || direct_beside_credit == 0 {
+        return Err("direct charges of one of these sorts never came up".to_string());
     }
     println!("programs: 0 differences, {:.1} s", start.elapsed().as_secs_f64());
 

@@ -1,9 +1,10 @@
 //! Inputs that are listed one by one: a CR at every place, the longest input in CR LF, every month of the calendar, months
-//! skipped or refused in a cycle, and the stored runs.
+//! skipped or refused in a cycle, direct charges at their limits, and the stored runs.
 
 use crate::inputs::{exact, in_turn, Ends, Input};
 use rateio_reference::lines::{Agent, MonthLines, User, CONSUMER};
-use rateio_reference::program::{events, Event, PROGRAM_INPUT};
+use rateio_reference::program::{events, Event, PROGRAM_CAPACITY, PROGRAM_INPUT};
+use rateio_reference::refusals::MAX_AMOUNT;
 use rateio_reference::rng::Rng;
 use rateio_reference::vectors::{self, VECTOR_FILES};
 use rateio_reference::{json, months, sample, texts};
@@ -15,6 +16,8 @@ pub fn inputs(runs: &[&str]) -> Result<Vec<Input>, String> {
     inputs.extend(longest());
     inputs.extend(calendar()?);
     inputs.extend(skipped()?);
+    inputs.extend(direct()?);
+    inputs.extend(another_column());
     for path in runs {
         inputs.extend(stored(path)?.into_iter().map(|input| ("a stored run", input)));
     }
@@ -58,7 +61,7 @@ fn longest() -> Vec<Input> {
 /// so the agents' VMPA tell which one it is; that of 12 cents tells how many twelfths are due.
 fn telling(month: i64) -> MonthLines {
     let agent = |pa: i64| Agent { number: pa, pb: pa, pv: 0, afs: 0, rfs: 0, pa, ret: 0 };
-    let users = vec![User { number: 1, kind: CONSUMER, ret: 100 }];
+    let users = vec![User { number: 1, kind: CONSUMER, ret: 100, ong: 0 }];
     MonthLines { month, ons: 1, agents: (1..=12).map(agent).collect(), users, points: Vec::new() }
 }
 
@@ -88,6 +91,60 @@ fn skipped() -> Result<Vec<Input>, String> {
     }
     inputs.push(two(200_001, 209_912));
     closing(inputs, 24 * 13 + 355 * 2)
+}
+
+/// A month of so many users, of each kind in turn, each of whom owes 100.
+fn of_each_kind(month: i64, users: usize) -> MonthLines {
+    let user = |number: i64| User { number, kind: 1 + (number - 1) % 3, ret: 100, ong: 0 };
+    MonthLines { users: (1..=users as i64).map(user).collect(), ..telling(month) }
+}
+
+/// Direct charges of a user of each kind, the first, the second and the last: at their limits and past them, and beside
+/// a credit that is left and then used; where nobody owes anything; and the largest, of as many users as are taken.
+fn direct() -> Result<Vec<Input>, String> {
+    const HUGE: i64 = 999_999_999_999_999_999;
+    let mut inputs = Vec::new();
+    for k in 0..3 {
+        for ong in [-HUGE, -MAX_AMOUNT, -1, 0, 1, MAX_AMOUNT - 1, MAX_AMOUNT, MAX_AMOUNT + 1, HUGE] {
+            let mut lines = of_each_kind(202_407, 3);
+            lines.users[k].ong = ong;
+            inputs.push(("a direct charge at its limits", texts::file(&lines)));
+        }
+        for ong in [1, 999, 1000, 1001, MAX_AMOUNT] {
+            let mut months = [202_407, 202_408, 202_409].map(|month| of_each_kind(month, 3));
+            months[0].users[k].ret = -1000;
+            months[1].users[k].ret = 300;
+            months[2].users[k].ret = 1700;
+            months.iter_mut().for_each(|lines| lines.users[k].ong = ong);
+            inputs.push(("a direct charge beside a credit", texts::files(&months)));
+        }
+        let mut nobody = of_each_kind(202_407, 3);
+        nobody.users.iter_mut().for_each(|user| user.ret = 0);
+        nobody.users[k].ong = 100;
+        inputs.push(("a direct charge and no debit", texts::file(&nobody)));
+    }
+    let mut months = [202_407, 202_408].map(|month| of_each_kind(month, PROGRAM_CAPACITY.users));
+    months.iter_mut().flat_map(|lines| &mut lines.users).for_each(|user| user.ong = MAX_AMOUNT);
+    inputs.push(("the largest direct charges", texts::files(&months)));
+    closing(inputs, 3 * 4 + 3 * 5 * 3 + 2)
+}
+
+/// The worked file as it was before it had the column `ong`, in its names, its lines or both; with the column elsewhere,
+/// twice, and one more.
+fn another_column() -> Vec<Input> {
+    let names =
+        ["user,kind,ret", "user,kind,ret,ong", "user,kind,ong,ret", "user,kind,ret,ong,ong", "user,kind,ret,ong,"];
+    let lines =
+        ["1,2,0\n2,3,0\n", "1,2,0,0\n2,3,0,0\n", "1,2,0,0,0\n2,3,0,0,0\n", "1,2,0,\n2,3,0,\n", "1,2,0,0\n2,3,0\n"];
+    let mut inputs = Vec::new();
+    for names in names {
+        for lines in lines {
+            let text = sample::INPUT.replace("user,kind,ret,ong", names).replace("1,2,0,0\n2,3,0,0\n", lines);
+            inputs.push(("another column", text.clone().into_bytes()));
+            inputs.push(("another column", texts::cr_lf(text.as_bytes())));
+        }
+    }
+    inputs
 }
 
 /// These inputs, in which so many months close.

@@ -40,7 +40,9 @@ fn main() -> ExitCode {
         ["largest"] => write(&inputs::full_of(&mut Rng::new(1), Style::Tiny, inputs::in_lf)),
         ["office"] => write(&inputs::full_of(&mut Rng::new(1), Style::Tiny, texts::cr_lf)),
         ["full"] => {
-            let lines = months::sound_month(&mut Rng::new(2024), Style::Ordinary, inputs::FULL);
+            let mut lines = months::sound_month(&mut Rng::new(2024), Style::Ordinary, inputs::FULL);
+            // It is older than the direct charges, and its stored output has none.
+            lines.users.iter_mut().for_each(|user| user.ong = 0);
             write(&texts::file(&MonthLines { month: 202_407, ..lines }))
         }
         _ => Err(USAGE.to_string()),

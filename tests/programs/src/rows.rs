@@ -113,7 +113,7 @@ fn month_adds_up(rows: &[Row], held: &mut HashMap<String, i128>) -> Result<(), S
         same(of("n"), of("VME") - of("CPV") - of("held_before"), || at("n, VME - CPV - held_before"))?;
         same(of("VD") - of("held_after"), of("n"), || at("VD - held_after, n"))?;
         same(of("VD").min(of("held_after")), 0, || at("the lesser of VD and held_after, 0"))?;
-        same(of("column"), of("VD"), || at("its cells, VD"))?;
+        same(of("column"), of("VD") + of("ong"), || at("its cells, VD + ong"))?;
         let before = held.insert(user.to_string(), of("held_after")).unwrap_or(0);
         same(of("held_before"), before, || at("held_before, held_after of the month before"))?;
     }
@@ -122,12 +122,14 @@ fn month_adds_up(rows: &[Row], held: &mut HashMap<String, i128>) -> Result<(), S
         let of = |item: &str| sums.get(item, payee, "");
         let at = |what: &str| format!("payee {}: {}", payee, what);
         same(of("row"), of("VC"), || at("its cells, VC"))?;
-        if payee != "ons" {
+        if payee == "ons" {
+            same(of("VC"), of("ons") + sums.total("ong"), || at("VC, ons + all ong"))?;
+        } else {
             let parts = of("VMST") + of("VMPA") + of("VMANT") + of("ret");
             same(of("VC"), parts, || at("VC, VMST + VMPA + VMANT + ret"))?;
         }
     }
-    same(sums.total("VC"), sums.total("VD"), || "all VC, all VD".to_string())?;
+    same(sums.total("VC"), sums.total("VD") + sums.total("ong"), || "all VC, all VD + all ong".to_string())?;
     same(sums.total("VMANT"), sums.total("SMSE"), || "all VMANT, SMSE".to_string())
 }
 

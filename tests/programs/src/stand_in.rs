@@ -4,8 +4,9 @@
 use crate::compare::compare;
 use crate::inputs::input;
 use crate::rows;
+use rateio_reference::amounts::Amounts;
 use rateio_reference::credits::Credits;
-use rateio_reference::program::{self, events, Event, PROGRAM_CAPACITY, PROGRAM_INPUT};
+use rateio_reference::program::{self, events, Closed, Event, PROGRAM_CAPACITY, PROGRAM_INPUT};
 use rateio_reference::read::read_month;
 use rateio_reference::refusals::Refusal;
 use rateio_reference::rng::Rng;
@@ -17,13 +18,16 @@ use std::path::Path;
 pub const NO_FAULT: &str = "none";
 
 /// What is wrong, and whether only `consulta` can have it.
-const FAULTS: [(&str, bool); 25] = [
+const FAULTS: [(&str, bool); 29] = [
     ("cent moved round a ring", false),
     ("cent added to a cell", false),
     ("cells rounded one by one", false),
     ("held credit", false),
     ("credits forgotten", false),
     ("one twelfth whatever was skipped", false),
+    ("direct charges left out", false),
+    ("direct charges shared among the payees", false),
+    ("direct charges paid by held credits", false),
     ("place", false),
     ("number", false),
     ("no names", false),
@@ -42,6 +46,7 @@ const FAULTS: [(&str, bool); 25] = [
     ("reads once", false),
     ("speaks on standard error", false),
     ("another table than settle's", true),
+    ("ONS's credit without the direct charges", true),
     ("cent moved between points", true),
 ];
 
@@ -104,6 +109,20 @@ fn faulty_events(input: &[u8], fault: &str) -> Vec<Event> {
             }
             events
         }
+        "direct charges left out"
+        | "direct charges shared among the payees"
+        | "direct charges paid by held credits"
+        | "ONS's credit without the direct charges" => {
+            let mut events = events(input);
+            let mut last = 0;
+            for event in &mut events {
+                if let Event::Closed(closed) = event {
+                    misplace_direct_charges(closed, last, fault);
+                    last = closed.month();
+                }
+            }
+            events
+        }
         "takes a lone CR" => {
             let lf_next = |at: usize| input.get(at + 1) == Some(&b'\n');
             let taken = |at: usize| if input[at] == b'\r' && !lf_next(at) { b'\n' } else { input[at] };
@@ -132,6 +151,28 @@ fn faulty_events(input: &[u8], fault: &str) -> Vec<Event> {
             events
         }
         _ => events(input),
+    }
+}
+
+/// A month as such a program has it; `last` is the month closed before it.
+fn misplace_direct_charges(closed: &mut Closed, last: i64, fault: &str) {
+    let Amounts { charges, credits } = &mut closed.amounts;
+    match fault {
+        "direct charges left out" => charges.ong.fill(0),
+        "direct charges paid by held credits" => {
+            for (ong, held) in charges.ong.iter_mut().zip(&mut charges.held) {
+                let paid = (*ong).min(*held);
+                (*ong, *held) = (*ong - paid, *held - paid);
+            }
+        }
+        "ONS's credit without the direct charges" => credits.credit = credits.vc.clone(),
+        // Charges like the others: they enter the debits, and so every payee's cells.
+        _ => {
+            let mut lines = closed.lines.clone();
+            lines.users.iter_mut().for_each(|user| (user.ret, user.ong) = (user.ret + user.ong, 0));
+            let held: Vec<i128> = closed.held_before.iter().map(|&credit| credit.into()).collect();
+            closed.amounts = Amounts::of_month(&lines, last, &held);
+        }
     }
 }
 

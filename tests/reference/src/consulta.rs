@@ -1,12 +1,13 @@
 //! The program `consulta`: every amount that stands behind a month's table, from the same files as `settle`.
 //!
 //! A row is `month,item,payee,user,point,cents`; a column is empty where it does not apply. Of a closed month come the
-//! charges of each point, the amounts of each user, those of each agent, what ONS is due, the balance, and the cells.
+//! charges of each point, the amounts of each user with its direct charge last, those of each agent, what ONS is due of the
+//! debits and with the direct charges, the balance, and the cells.
 
 use crate::charges::{overrun, use_charge};
 use crate::output::{output_lines, payee_names, refused_line};
 use crate::program::{events, Closed, Event};
-use crate::table::{is_table, some_table};
+use crate::table::some_table;
 
 /// The names, printed first in every run.
 pub const CONSULTA_NAMES: &str = "month,item,payee,user,point,cents\n";
@@ -16,7 +17,7 @@ pub fn consulta(input: &[u8]) -> Vec<u8> {
     print(&events(input), some_table)
 }
 
-/// The output for these events, with a table made for each closed month.
+/// The output for these events, with a table made for each closed month from its shared credits and its debits.
 pub fn print(events: &[Event], mut table: impl FnMut(&[i128], &[i128]) -> Vec<i64>) -> Vec<u8> {
     let mut output = String::from(CONSULTA_NAMES);
     for event in events {
@@ -24,7 +25,7 @@ pub fn print(events: &[Event], mut table: impl FnMut(&[i128], &[i128]) -> Vec<i6
             Event::Refused(refusal) => output.push_str(&refused_line(refusal)),
             Event::Closed(closed) => {
                 amount_rows(closed).iter().for_each(|row| output.push_str(row));
-                for (start, cents) in cell_starts(closed).iter().zip(table(closed.vc(), closed.vd())) {
+                for (start, cents) in cell_starts(closed).iter().zip(closed.cells(table(closed.vc(), closed.vd()))) {
                     output.push_str(&format!("{}{}\n", start, cents));
                 }
             }
@@ -55,6 +56,7 @@ fn amount_rows(closed: &Closed) -> Vec<String> {
             ("n", charges.n[j]),
             ("VD", charges.vd[j]),
             ("held_after", charges.held[j]),
+            ("ong", user.ong.into()),
         ];
         rows.extend(items.iter().map(|(item, cents)| format!("{},{},,{},,{}\n", month, item, j + 1, cents)));
     }
@@ -69,7 +71,9 @@ fn amount_rows(closed: &Closed) -> Vec<String> {
         ];
         rows.extend(items.iter().map(|(item, cents)| format!("{},{},{},,,{}\n", month, item, i + 1, cents)));
     }
-    rows.push(format!("{},VC,ons,,,{}\n", month, closed.lines.ons));
+    let credit = credits.credit.last().expect("ONS is a payee");
+    rows.push(format!("{},ons,ons,,,{}\n", month, closed.lines.ons));
+    rows.push(format!("{},VC,ons,,,{}\n", month, credit));
     rows.push(format!("{},SMSE,,,,{}\n", month, credits.smse));
     rows
 }
@@ -99,7 +103,7 @@ pub fn check_events(events: &[Event], output: &[u8]) -> Result<(), String> {
                 amount_rows(closed).iter().try_for_each(|row| lines.same(row))?;
                 let starts = cell_starts(closed);
                 let cells: Vec<i64> = starts.iter().map(|start| lines.cents_after(start)).collect::<Result<_, _>>()?;
-                is_table(closed.vc(), closed.vd(), &cells).map_err(|why| format!("{}: {}", closed.month(), why))?;
+                closed.check_cells(&cells)?;
             }
         }
     }

@@ -14,8 +14,10 @@ pub struct Credits {
     pub smse: i128,
     /// The agent's part of the balance.
     pub vmant: Vec<i128>,
-    /// Credit by payee: the agents in order, then ONS.
+    /// Credit by payee out of the debits: the agents in order, then ONS with `ons`, the shared part alone.
     pub vc: Vec<i128>,
+    /// The month's credit by payee: the same, ONS's with all direct charges (change request Q-1).
+    pub credit: Vec<i128>,
 }
 
 /// The month's place in the tariff cycle: July 1 to June 12.
@@ -68,12 +70,14 @@ impl Credits {
         let vmpa: Vec<i128> = lines.agents.iter().map(|agent| vmpa(agent.pa.into(), b, c)).collect();
         let own: Vec<i128> =
             (0..lines.agents.len()).map(|i| vmst[i] + vmpa[i] + i128::from(lines.agents[i].ret)).collect();
-        // Item 3.2.1.3.1: what ONS is due leaves the balance.
+        // Item 3.2.1.3.1: what ONS is due of the debits leaves the balance.
         let smse = vd.iter().sum::<i128>() - own.iter().sum::<i128>() - ons;
         let pb: Vec<i128> = lines.agents.iter().map(|agent| agent.pb.into()).collect();
         let vmant = running_share(smse, &pb);
         let mut vc: Vec<i128> = own.iter().zip(&vmant).map(|(own, vmant)| own + vmant).collect();
+        let mut credit = vc.clone();
         vc.push(ons);
-        Credits { vmst, vmpa, smse, vmant, vc }
+        credit.push(ons + lines.users.iter().map(|user| i128::from(user.ong)).sum::<i128>());
+        Credits { vmst, vmpa, smse, vmant, vc, credit }
     }
 }

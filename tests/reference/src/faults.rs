@@ -136,6 +136,11 @@ pub fn all() -> Vec<Fault> {
         fault!("kind 4", Users, 5, |m, i| m.users[i].kind = 4),
         fault!("user ret below", Users, 5, |m, i| m.users[i].ret = -MAX_AMOUNT - 1),
         fault!("user ret above", Users, 5, |m, i| m.users[i].ret = MAX_AMOUNT + 1),
+        fault!("ong -1", Users, 5, |m, i| m.users[i].ong = -1),
+        fault!("ong above", Users, 5, |m, i| m.users[i].ong = MAX_AMOUNT + 1),
+        fault!("ong huge", Users, 5, |m, i| m.users[i].ong = 999_999_999_999_999_999),
+        // Where ret may be, and ong may not.
+        fault!("ong below 0 as ret may be", Users, 5, |m, i| m.users[i].ong = -MAX_AMOUNT),
         fault!("point of user 0", Points, 6, |m, i| m.points[i].at = 0),
         fault!("point of user -1", Points, 6, |m, i| m.points[i].at = -1),
         fault!("point past the users", Points, 6, |m, i| m.points[i].at = m.users.len() as i64 + 1),
@@ -152,6 +157,13 @@ pub fn all() -> Vec<Fault> {
             m.points.clear();
             m.agents.iter_mut().for_each(|agent| agent.pv = 0);
             m.users.iter_mut().for_each(|user| user.ret = user.ret.min(0));
+            m.users[0].ret = 0;
+        }),
+        // A direct charge is no debit.
+        fault!("no debit but direct charges", Sums, 10, |m, _| {
+            m.points.clear();
+            m.agents.iter_mut().for_each(|agent| agent.pv = 0);
+            m.users.iter_mut().for_each(|user| (user.ret, user.ong) = (user.ret.min(0), MAX_AMOUNT));
             m.users[0].ret = 0;
         }),
     ];

@@ -3,7 +3,7 @@
 use crate::amounts::Amounts;
 use crate::lines::MonthLines;
 use crate::refusals::{self, Lengths, Refusal};
-use crate::table::some_table;
+use crate::table::{some_table, with_direct};
 
 /// Both counts and the last closed month, 0 for none.
 #[derive(Clone, Copy, Debug, PartialEq, Eq)]
@@ -42,6 +42,6 @@ pub fn close(
         *held = i64::try_from(credit).expect("a held credit grows by no more than a month's amounts");
     }
     let table = some_table(&amounts.credits.vc, &amounts.charges.vd);
-    cells[..table.len()].copy_from_slice(&table);
+    cells[..table.len()].copy_from_slice(&with_direct(table, &amounts.charges.ong));
     (Ledger { month: lines.month, ..ledger }, Ok(amounts))
 }

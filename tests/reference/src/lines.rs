@@ -26,6 +26,8 @@ pub struct User {
     pub kind: i64,
     /// Charge correction.
     pub ret: i64,
+    /// The month's direct charge to ONS (change request Q-1).
+    pub ong: i64,
 }
 
 pub const DISTRIBUTOR: i64 = 1;
@@ -56,7 +58,7 @@ pub struct Point {
 pub struct MonthLines {
     /// yyyymm.
     pub month: i64,
-    /// What the operator ONS is due (RMONS).
+    /// What the operator ONS is due (RMONS) of the month's debits; its direct charges are beside it.
     pub ons: i64,
     pub agents: Vec<Agent>,
     pub users: Vec<User>,
@@ -74,12 +76,12 @@ impl Agent {
 }
 
 impl User {
-    pub fn from_columns([number, kind, ret]: [i64; 3]) -> User {
-        User { number, kind, ret }
+    pub fn from_columns([number, kind, ret, ong]: [i64; 4]) -> User {
+        User { number, kind, ret, ong }
     }
 
-    pub fn columns(&self) -> [i64; 3] {
-        [self.number, self.kind, self.ret]
+    pub fn columns(&self) -> [i64; 4] {
+        [self.number, self.kind, self.ret, self.ong]
     }
 }
 

@@ -106,7 +106,12 @@ pub fn month(rng: &mut Rng, style: Style, counts: Counts) -> MonthLines {
     let agents = (1..=counts.agents as i64).map(|number| agent(rng, style, number)).collect();
     let users: Vec<User> = (1..=counts.users as i64).map(|number| user(rng, style, number)).collect();
     let points = (0..counts.points).map(|_| point(rng, style, &users)).collect();
-    MonthLines { month: any_month(rng), ons: amount(rng, style), agents, users, points }
+    let mut lines = MonthLines { month: any_month(rng), ons: amount(rng, style), agents, users, points };
+    // Half of the months have no direct charge.
+    if rng.chance(50) {
+        lines.users.iter_mut().for_each(|user| user.ong = direct_charge(rng));
+    }
+    lines
 }
 
 /// A month that is accepted where no credit is held and the month is later than the last.
@@ -152,7 +157,17 @@ fn agent(rng: &mut Rng, style: Style, number: i64) -> Agent {
 
 fn user(rng: &mut Rng, style: Style, number: i64) -> User {
     let ret = if rng.chance(30) { 0 } else { signed_amount(rng, style) };
-    User { number, kind: rng.pick(&[DISTRIBUTOR, CONSUMER, GENERATOR]), ret }
+    User { number, kind: rng.pick(&[DISTRIBUTOR, CONSUMER, GENERATOR]), ret, ong: 0 }
+}
+
+/// A direct charge of whatever kind of user: none, a few cents, any size, and about the limit.
+fn direct_charge(rng: &mut Rng) -> i64 {
+    match rng.below(5) {
+        0 | 1 => 0,
+        2 => rng.between(1, 99),
+        3 => rng.any_size(MAX_AMOUNT),
+        _ => rng.pick(&[MAX_AMOUNT - 1, MAX_AMOUNT]),
+    }
 }
 
 fn point(rng: &mut Rng, style: Style, users: &[User]) -> Point {

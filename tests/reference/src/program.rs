@@ -7,7 +7,7 @@ use crate::lines::MonthLines;
 use crate::output::{output_lines, payee_names, refused_line};
 use crate::read::{self, Capacity};
 use crate::refusals::{work_needed, Refusal};
-use crate::table::{is_table, some_table};
+use crate::table::{is_billed, some_table, with_direct};
 
 /// The most that the program takes.
 pub const PROGRAM_CAPACITY: Capacity = Capacity { agents: 16, users: 64, points: 256 };
@@ -36,6 +36,7 @@ impl Closed {
         self.lines.month
     }
 
+    /// The shared credits: of ONS without the direct charges.
     pub fn vc(&self) -> &[i128] {
         &self.amounts.credits.vc
     }
@@ -46,6 +47,20 @@ impl Closed {
 
     pub fn held(&self) -> &[i128] {
         &self.amounts.charges.held
+    }
+
+    pub fn ong(&self) -> &[i128] {
+        &self.amounts.charges.ong
+    }
+
+    /// The cells of this table of the shared credits and debits, as they are billed.
+    pub(crate) fn cells(&self, table: Vec<i64>) -> Vec<i64> {
+        with_direct(table, self.ong())
+    }
+
+    /// Whether these may be the month's cells.
+    pub(crate) fn check_cells(&self, cells: &[i64]) -> Result<(), String> {
+        is_billed(self.vc(), self.vd(), self.ong(), cells).map_err(|why| format!("{}: {}", self.month(), why))
     }
 }
 
@@ -96,14 +111,14 @@ pub fn settle(input: &[u8]) -> Vec<u8> {
     print(&events(input), some_table)
 }
 
-/// The output for these events, with a table made for each closed month.
+/// The output for these events, with a table made for each closed month from its shared credits and its debits.
 pub fn print(events: &[Event], mut table: impl FnMut(&[i128], &[i128]) -> Vec<i64>) -> Vec<u8> {
     let mut output = String::from(OUTPUT_NAMES);
     for event in events {
         match event {
             Event::Refused(refusal) => output.push_str(&refused_line(refusal)),
             Event::Closed(closed) => {
-                for (start, cents) in cell_starts(closed).iter().zip(table(closed.vc(), closed.vd())) {
+                for (start, cents) in cell_starts(closed).iter().zip(closed.cells(table(closed.vc(), closed.vd()))) {
                     output.push_str(&format!("{}{}\n", start, cents));
                 }
                 held_lines(closed).iter().for_each(|line| output.push_str(line));
@@ -142,7 +157,7 @@ pub fn check_events(events: &[Event], output: &[u8]) -> Result<(), String> {
             Event::Closed(closed) => {
                 let starts = cell_starts(closed);
                 let cells: Vec<i64> = starts.iter().map(|start| lines.cents_after(start)).collect::<Result<_, _>>()?;
-                is_table(closed.vc(), closed.vd(), &cells).map_err(|why| format!("{}: {}", closed.month(), why))?;
+                closed.check_cells(&cells)?;
                 held_lines(closed).iter().try_for_each(|line| lines.same(line))?;
             }
         }

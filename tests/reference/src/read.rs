@@ -1,4 +1,5 @@
-//! The month file ("The month file"; refusals 11 and 12; request Q-3, CR LF read as LF).
+//! The month file ("The month file"; refusals 11 and 12; requests Q-3, CR LF read as LF, and Q-1,
+//! the user line's last column).
 //!
 //! The reader goes down the format with the byte at hand and never looks ahead. Each test below leaves the text the
 //! moment no accepted file could go on with the byte at hand, so the cursor then stands at the place of refusal 11.
@@ -9,7 +10,7 @@ use crate::refusals::Refusal;
 /// The names of each block, without their line's end.
 pub const MONTH_NAMES: &str = "month,ons";
 pub const AGENT_NAMES: &str = "agent,pb,pv,afs,rfs,pa,ret";
-pub const USER_NAMES: &str = "user,kind,ret";
+pub const USER_NAMES: &str = "user,kind,ret,ong";
 pub const POINT_NAMES: &str = "at,tp,tf,dp,df,mp,mf,vp,vf";
 
 /// Digits of a value, not counting its minus sign.

@@ -120,8 +120,10 @@ fn agent_line(place: u64, agent: &Agent) -> Option<Refusal> {
 }
 
 fn user_line(place: u64, user: &User) -> Option<Refusal> {
-    let in_range =
-        user.number == place as i64 && (1..=3).contains(&user.kind) && (-MAX_AMOUNT..=MAX_AMOUNT).contains(&user.ret);
+    let in_range = user.number == place as i64
+        && (1..=3).contains(&user.kind)
+        && (-MAX_AMOUNT..=MAX_AMOUNT).contains(&user.ret)
+        && (0..=MAX_AMOUNT).contains(&user.ong);
     refuse_unless(in_range, 5, place)
 }
 
@@ -144,7 +146,7 @@ fn point_line(place: u64, point: &Point, users: &[User]) -> Option<Refusal> {
     refuse_unless(as_its_kind, 7, place)
 }
 
-/// 8, 9 and 10; no line has broken a limit.
+/// 8, 9 and 10; no line has broken a limit. A direct charge is no debit: it keeps no month from 10.
 fn sums(lines: &MonthLines, credits: &[i128]) -> Option<Refusal> {
     let total = |column: fn(&Agent) -> i64| lines.agents.iter().map(|agent| i128::from(column(agent))).sum::<i128>();
     if total(|agent| agent.pb) == 0 {

@@ -6,9 +6,9 @@ month,ons
 agent,pb,pv,afs,rfs,pa,ret
 1,1000,0,0,0,0,4
 2,2000,30,0,0,25,0
-user,kind,ret
-1,2,0
-2,3,0
+user,kind,ret,ong
+1,2,0,0
+2,3,0,0
 at,tp,tf,dp,df,mp,mf,vp,vf
 1,1000,500,0,0,3,2,3,2
 2,2000,0,50,0,16,0,16,0
@@ -42,6 +42,7 @@ month,item,payee,user,point,cents
 202407,n,,1,,394
 202407,VD,,1,,394
 202407,held_after,,1,,0
+202407,ong,,1,,0
 202407,EUST,,2,,1600
 202407,overruns,,2,,0
 202407,ret,,2,,0
@@ -51,6 +52,7 @@ month,item,payee,user,point,cents
 202407,n,,2,,1576
 202407,VD,,2,,1576
 202407,held_after,,2,,0
+202407,ong,,2,,0
 202407,VMST,1,,,1000
 202407,VMPA,1,,,0
 202407,VMANT,1,,,-369
@@ -61,6 +63,7 @@ month,item,payee,user,point,cents
 202407,VMANT,2,,,-737
 202407,ret,2,,,0
 202407,VC,2,,,1235
+202407,ons,ons,,,100
 202407,VC,ons,,,100
 202407,SMSE,,,,-1106
 202407,cell,1,1,,127

@@ -1,7 +1,8 @@
 //! The table of cells ("The table of cells"): what one is, one such table, and all of them.
 //!
 //! Payees are rows and users are columns. A cell whose exact value is whole holds that value; any other, a broken cell,
-//! holds the floor or one cent more.
+//! holds the floor or one cent more. That is the table of the shared credits and debits; the direct charges are added to
+//! ONS's row, the last, once it is formed (change request Q-1).
 
 use crate::rng::Rng;
 
@@ -42,6 +43,30 @@ pub fn is_table(vc: &[i128], vd: &[i128], cells: &[i64]) -> Result<(), String> {
         }
     }
     Ok(())
+}
+
+/// A table with each user's direct charge in its ONS cell: the cells as they are billed.
+pub fn with_direct(mut table: Vec<i64>, ong: &[i128]) -> Vec<i64> {
+    let ons = table.len() - ong.len();
+    for (cell, &ong) in table[ons..].iter_mut().zip(ong) {
+        *cell += i64::try_from(ong).expect("a direct charge is an amount of a line");
+    }
+    table
+}
+
+/// Whether `cells` are billed for these shared credits, debits and direct charges: with the charges taken off ONS's row
+/// they are a table. If not, the first property that fails.
+pub fn is_billed(vc: &[i128], vd: &[i128], ong: &[i128], cells: &[i64]) -> Result<(), String> {
+    if cells.len() != vc.len() * vd.len() {
+        return Err(format!("{} cells for {} payees and {} users", cells.len(), vc.len(), vd.len()));
+    }
+    let mut shared = cells.to_vec();
+    let ons = cells.len() - vd.len();
+    for (j, (cell, &ong)) in shared[ons..].iter_mut().zip(ong).enumerate() {
+        let left = i64::try_from(i128::from(*cell) - ong);
+        *cell = left.map_err(|_| format!("ONS, user {}: {} less the direct charge {}", j + 1, cell, ong))?;
+    }
+    is_table(vc, vd, &shared)
 }
 
 /// One table. Credits and debits have the same total, above 0, and no debit is negative.

@@ -38,11 +38,11 @@ impl Tally {
 #[derive(Clone, Debug)]
 pub struct Demand {
     pub tally: Tally,
-    /// By user: charges less compensation, added over the accepted months.
+    /// By user: charges less compensation, direct charges among them, added over the accepted months.
     pub charges: Vec<i128>,
-    /// By user: debits, added.
+    /// By user: debits and direct charges, added.
     pub debits: Vec<i128>,
-    /// By payee: credits, added.
+    /// By payee: the months' credits, added.
     pub credits: Vec<i128>,
     /// By user and by payee: cells, added.
     pub billed_to: Vec<i128>,
@@ -76,22 +76,25 @@ impl Demand {
             (Err(due), Some(refusal)) if due == refusal => return Ok(()),
             (due, answer) => return Err(format!("answered {:?} where {:?} is due", answer, due.err())),
         };
-        let (vc, vd) = (&amounts.credits.vc, &amounts.charges.vd);
-        let total: i128 = vd.iter().sum();
-        for (i, &vc) in vc.iter().enumerate() {
-            for (j, &vd) in vd.iter().enumerate() {
+        let Amounts { charges, credits } = &amounts;
+        let total: i128 = charges.vd.iter().sum();
+        let ons = credits.vc.len() - 1;
+        for (i, &vc) in credits.vc.iter().enumerate() {
+            for (j, &vd) in charges.vd.iter().enumerate() {
                 let cell = i128::from(cells[i * lines.users.len() + j]);
-                if (cell * total - vc * vd).abs() >= total {
+                // An ONS cell is measured without its direct charge, against the shared part alone.
+                let shared = if i == ons { cell - charges.ong[j] } else { cell };
+                if (shared * total - vc * vd).abs() >= total {
                     return Err(format!("payee {}, user {}: {} is a cent or more off", i + 1, j + 1, cell));
                 }
                 self.billed_for[i] += cell;
                 self.billed_to[j] += cell;
             }
-            self.credits[i] += vc;
+            self.credits[i] += credits.credit[i];
         }
-        for (j, vd) in vd.iter().enumerate() {
-            self.charges[j] += amounts.charges.vme[j] - amounts.charges.cpv[j];
-            self.debits[j] += vd;
+        for (j, billed) in charges.billed().into_iter().enumerate() {
+            self.charges[j] += charges.vme[j] + charges.ong[j] - charges.cpv[j];
+            self.debits[j] += billed;
         }
         Ok(())
     }
@@ -104,7 +107,7 @@ impl Demand {
         same("held credits", &held, &self.tally.credits)?;
         let due: Vec<i128> = self.charges.iter().zip(&held).map(|(charges, held)| charges + held).collect();
         same("cells by user, and charges with the credit still held", &self.billed_to, &due)?;
-        same("cells by user, and debits", &self.billed_to, &self.debits)?;
+        same("cells by user, and debits with direct charges", &self.billed_to, &self.debits)?;
         same("cells by payee, and credits", &self.billed_for, &self.credits)?;
         same("all cells, and all debits", &self.billed_for.iter().sum::<i128>(), &self.debits.iter().sum())
     }

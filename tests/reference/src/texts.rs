@@ -82,7 +82,7 @@ pub fn any_values(rng: &mut Rng, counts: Counts) -> MonthLines {
         lines.agents.push(Agent::from_columns([(); 7].map(|()| value())));
     }
     for _ in 0..counts.users {
-        lines.users.push(User::from_columns([(); 3].map(|()| value())));
+        lines.users.push(User::from_columns([(); 4].map(|()| value())));
     }
     for _ in 0..counts.points {
         lines.points.push(Point::from_columns([(); 9].map(|()| value())));
@@ -91,7 +91,7 @@ pub fn any_values(rng: &mut Rng, counts: Counts) -> MonthLines {
 }
 
 /// What people and programs put into such files by mistake.
-const PIECES: [&[u8]; 29] = [
+const PIECES: [&[u8]; 32] = [
     b"",
     b"0",
     b"00",
@@ -106,6 +106,8 @@ const PIECES: [&[u8]; 29] = [
     b" ",
     b",",
     b",,",
+    b",0",
+    b",ong",
     b"\n",
     b"\n\n",
     b"\r",
@@ -116,6 +118,7 @@ const PIECES: [&[u8]; 29] = [
     b"m",
     b"month,ons\n",
     b"Month,ons\n",
+    b"user,kind,ret\n",
     b"\xe2\x88\x921",
     b"\xff",
     b"\0",

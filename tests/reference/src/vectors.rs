@@ -8,20 +8,21 @@ use crate::program::{check_run, events, settle, Event};
 use crate::read::{check_text, read_month, Capacity};
 use crate::refusals::Refusal;
 use crate::share::share_c;
-use crate::table::is_table;
+use crate::table::is_billed;
 
 /// A file's name and the comparison of one of its lines.
 pub type VectorFile = (&'static str, fn(&Json) -> Result<(), String>);
 
-pub const VECTOR_FILES: [VectorFile; 8] = [
+pub const VECTOR_FILES: [VectorFile; 9] = [
     ("shares.jsonl", share),
     ("openings.jsonl", opening),
     ("closings.jsonl", closing),
     ("readings.jsonl", reading),
     ("runs.jsonl", run),
-    ("runs-Q3.jsonl", run_in_full),
-    ("runs-Q4.jsonl", run_in_full),
-    ("runs-Q8.jsonl", run_in_full),
+    ("runs-Q3.jsonl", run_in_full::<15>),
+    ("runs-Q4.jsonl", run_in_full::<15>),
+    ("runs-Q8.jsonl", run_in_full::<15>),
+    ("runs-Q1.jsonl", run_in_full::<16>),
 ];
 
 /// Compares every line of a file's text; the answer is their count.
@@ -100,7 +101,7 @@ fn closing(vector: &Json) -> Result<(), String> {
     same("new held credits", &new, &charges.held)?;
     same("held entries beyond", &after[users..], &held[users..])?;
     let (table, beyond) = cells.split_at(credits.vc.len() * users);
-    is_table(&credits.vc, &charges.vd, table)?;
+    is_billed(&credits.vc, &charges.vd, &charges.ong, table)?;
     same("cells beyond", &beyond.iter().all(|&cell| cell == MARK), &true)
 }
 
@@ -168,12 +169,10 @@ fn event(event: &Json) -> Result<Told, String> {
     Ok(Ok((whole(event, "month")?, list("vc")?, list("vd")?, list("held")?)))
 }
 
-/// The number of a closed month's fields in a run told in full: month, the twelve of every amount, `use` and `credit`.
-const TOLD_IN_FULL: usize = 15;
-
-/// A run of which each closed month is told with every amount. Without contracts a user's EUST is its use of the grid,
-/// and without direct charges a payee's credit is its VC.
-fn run_in_full(vector: &Json) -> Result<(), String> {
+/// A run of which each closed month is told with every amount, in so many fields: month, the twelve of every amount,
+/// `use`, `credit` and, of the runs made after request Q-1, `ong`; those made before have no direct charge. Without
+/// contracts a user's EUST is its use of the grid.
+fn run_in_full<const FIELDS: usize>(vector: &Json) -> Result<(), String> {
     let text = text_of(vector)?;
     let expected = field(vector, "events")?.list().ok_or("events is no list")?;
     let found = events(text);
@@ -190,11 +189,13 @@ fn run_in_full(vector: &Json) -> Result<(), String> {
             Json::Record(fields) => fields.len(),
             _ => 0,
         };
-        same("number of fields", &fields, &TOLD_IN_FULL)?;
+        same("number of fields", &fields, &FIELDS)?;
         same("month", &closed.month(), &whole(expected, "month")?)?;
         every_amount(&closed.amounts, expected)?;
         same("use", &closed.amounts.charges.eust, &numbers(field(expected, "use")?)?)?;
-        same("credit", &closed.amounts.credits.vc, &numbers(field(expected, "credit")?)?)?;
+        same("credit", &closed.amounts.credits.credit, &numbers(field(expected, "credit")?)?)?;
+        let no_ong = vec![0; closed.lines.users.len()];
+        same("ong", closed.ong(), &expected.field("ong").map_or(Ok(no_ong), numbers)?)?;
     }
     check_run(text, &settle(text))
 }

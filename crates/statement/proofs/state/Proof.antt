@@ -83,7 +83,7 @@ abbrev params : (κs : Lfts lfts) → Spelleds (typesAt (state.signature .params
 params κs = all-spelled (by-value G.the-type G′.the-laws ∷ shared (named 0) (lftAt lfts 0 tt κs) i64 ∷ by-value L.the-type L′.the-laws
     ∷ shared (named 1) (lftAt lfts 1 tt κs) Ra ∷ shared (named 2) (lftAt lfts 2 tt κs) Ru
     ∷ shared (named 3) (lftAt lfts 3 tt κs) P.the-row ∷ mutable (named 4) (lftAt lfts 4 tt κs) (Array i64 2)
-    ∷ mutable (named 5) (lftAt lfts 5 tt κs) (Array i64 9) ∷ mutable (named 6) (lftAt lfts 6 tt κs) (Array i64 5) ∷ [])
+    ∷ mutable (named 5) (lftAt lfts 5 tt κs) (Array i64 10) ∷ mutable (named 6) (lftAt lfts 6 tt κs) (Array i64 6) ∷ [])
 
 -- which parameter the points are, which lifetime theirs is, and how many parameters stand after them
 abbrev at : ℕ

@@ -133,6 +133,8 @@ fn totals_of_a_month() {
         assert_eq!(total(&credits.vc), total(&charges.vd));
         assert_eq!(total(&credits.vmant), credits.smse);
         assert_eq!(credits.vc.last(), Some(&i128::from(lines.ons)));
+        assert_eq!(total(&credits.credit), total(&charges.billed()));
+        assert_eq!(credits.credit[..counts.agents], credits.vc[..counts.agents]);
         for (j, &credit) in held.iter().enumerate() {
             assert!(charges.vd[j] >= 0 && charges.held[j] >= 0);
             assert!(charges.vd[j] == 0 || charges.held[j] == 0);

@@ -44,7 +44,7 @@ fn case_a_the_worked_file() {
     assert_eq!(texts::file(&lines), sample::INPUT.as_bytes());
     assert_eq!((lines.month, lines.ons), (202_407, 100));
     assert_eq!(lines.agents[1], Agent { number: 2, pb: 2000, pv: 30, afs: 0, rfs: 0, pa: 25, ret: 0 });
-    assert_eq!(lines.users[1], User { number: 2, kind: GENERATOR, ret: 0 });
+    assert_eq!(lines.users[1], User { number: 2, kind: GENERATOR, ret: 0, ong: 0 });
     assert_eq!(lines.points[0], Point { at: 1, tp: 1000, tf: 500, dp: 0, df: 0, mp: 3, mf: 2, vp: 3, vf: 2 });
 
     let mut held = [9, 9, 9];
@@ -171,7 +171,7 @@ fn the_refusals_small_examples() {
     assert_eq!(refusal_of(&nothing_owed, &mut [0, 0]), (10, 0));
     assert_eq!(read_month(b"", 0, ROOM), Err(Refusal::new(11, 0)));
 
-    let users: Vec<User> = (1..=65).map(|number| User { number, kind: CONSUMER, ret: 0 }).collect();
+    let users: Vec<User> = (1..=65).map(|number| User { number, kind: CONSUMER, ret: 0, ong: 0 }).collect();
     let text = texts::file(&with(&|m| m.users = users.clone()));
     let place = String::from_utf8_lossy(&text).find("\n65,").expect("there is a user 65") + 1;
     let output = format!("month,payee,user,cents\nrefused,12,{}\n", place);

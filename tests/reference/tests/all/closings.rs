@@ -7,7 +7,7 @@ use rateio_reference::lines::MonthLines;
 use rateio_reference::months::{self, counts_up_to, sound_month, Counts, STYLES};
 use rateio_reference::refusals::{cells_needed, work_needed, Lengths, Refusal};
 use rateio_reference::rng::Rng;
-use rateio_reference::table::is_table;
+use rateio_reference::table::is_billed;
 use rateio_reference::tally::Demand;
 
 /// What untouched entries hold.
@@ -162,7 +162,7 @@ fn an_accepted_closing_changes_what_it_should() {
                 let (new, beyond) = after.split_at(counts.users);
                 assert_eq!(new.iter().map(|&credit| i128::from(credit)).collect::<Vec<_>>(), charges.held);
                 assert_eq!(beyond, &held[counts.users..]);
-                assert_eq!(is_table(&credits.vc, &charges.vd, &cells[..entries]), Ok(()));
+                assert_eq!(is_billed(&credits.vc, &charges.vd, &charges.ong, &cells[..entries]), Ok(()));
                 assert_eq!(cells[entries..], [MARK; 3]);
             }
             // Held credits can take every debit away.

@@ -36,7 +36,7 @@ fn refusals_are_printed_as_settle_does() {
     assert_eq!(printed(&format!("{}{}", broken, sound)), format!("refused,5,2\n{}", rows));
     assert_eq!(printed(&format!("{}{}", sound, sound)), format!("{}refused,3,0\n", rows));
     assert_eq!(printed(&format!("{}mo", sound)), format!("{}refused,11,{}\n", rows, sound.len() + 2));
-    assert_eq!(printed(&sound.replace("1,2,0\n2,3,0\n", "")), "refused,1,0\n");
+    assert_eq!(printed(&sound.replace("1,2,0,0\n2,3,0,0\n", "")), "refused,1,0\n");
     assert_eq!(printed(""), "refused,11,0\n");
     assert_eq!(printed(&"m".repeat(32_769)), "refused,12,0\n");
 }
@@ -58,8 +58,8 @@ fn points_by_their_users() {
 #[test]
 fn held_credits_before_and_after() {
     let no_pv = sample::INPUT.replace("2,2000,30", "2,2000,0");
-    let first = no_pv.replace("\n1,2,0\n", "\n1,2,-450\n");
-    let second = no_pv.replace("202407", "202409").replace("\n1,2,0\n", "\n1,2,-320\n");
+    let first = no_pv.replace("\n1,2,0,0\n", "\n1,2,-450,0\n");
+    let second = no_pv.replace("202407", "202409").replace("\n1,2,0,0\n", "\n1,2,-320,0\n");
     let rows = printed(&(first + &second));
     let of_user_1 = |item: &str| -> Vec<i64> {
         ["202407", "202409"].iter().flat_map(|month| cents(&rows, &format!("{},{},,1,,", month, item))).collect()

@@ -23,7 +23,7 @@ fn is_files(text: &[u8]) -> bool {
         Ok(text) if text.ends_with('\n') => &text[..text.len() - 1],
         _ => return false,
     };
-    let blocks = [(MONTH_NAMES, 2), (AGENT_NAMES, 7), (USER_NAMES, 3), (POINT_NAMES, 9)];
+    let blocks = [(MONTH_NAMES, 2), (AGENT_NAMES, 7), (USER_NAMES, 4), (POINT_NAMES, 9)];
     // The block of the line before, and how many lines of values it has so far.
     let (mut block, mut lines) = (3, 0);
     let mut begun = false;

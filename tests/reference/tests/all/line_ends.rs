@@ -28,12 +28,12 @@ fn some_files(rng: &mut Rng) -> Vec<u8> {
 #[test]
 fn the_worked_file_in_cr_lf() {
     let (lf, cr_lf) = (sample::INPUT.as_bytes(), office());
-    assert_eq!((lf.len(), cr_lf.len()), (184, 195));
+    assert_eq!((lf.len(), cr_lf.len()), (192, 203));
     assert_eq!(texts::cr_lf(lf), cr_lf);
     assert_eq!(texts::cr_lf(&cr_lf), cr_lf, "an LF that has its CR gets no other");
     assert_eq!(check_text(&cr_lf), -1);
     let (lines, next) = read_month(&cr_lf, 0, ANY_COUNT).expect("a sound file");
-    assert_eq!((lines, next), (read_month(lf, 0, ANY_COUNT).expect("a sound file").0, 195));
+    assert_eq!((lines, next), (read_month(lf, 0, ANY_COUNT).expect("a sound file").0, 203));
     // "Output keeps LF."
     assert_eq!(String::from_utf8_lossy(&settle(&cr_lf)), sample::OUTPUT);
     assert_eq!(String::from_utf8_lossy(&consulta::consulta(&cr_lf)), sample::CONSULTA);
@@ -136,7 +136,7 @@ fn a_line_too_many_in_cr_lf() {
     assert!(read_month(&text, 0, room).is_ok());
     let refused = |capacity| read_month(&text, 0, capacity).expect_err("a line too many");
     assert_eq!(refused(Capacity { agents: 1, ..room }), Refusal::new(12, at("2,2000,30")));
-    assert_eq!(refused(Capacity { users: 0, ..room }), Refusal::new(12, at("1,2,0\r")));
+    assert_eq!(refused(Capacity { users: 0, ..room }), Refusal::new(12, at("1,2,0,0\r")));
     assert_eq!(refused(Capacity { points: 1, ..room }), Refusal::new(12, at("2,2000,0,50")));
     // The line's own CR is not looked at, and a CR before the line comes first.
     let alone = text[..at("2,2000,30") as usize + 8].to_vec();

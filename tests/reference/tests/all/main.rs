@@ -5,6 +5,7 @@ mod bands;
 mod by_hand;
 mod closings;
 mod consulta;
+mod direct;
 mod files;
 mod line_ends;
 mod runs;

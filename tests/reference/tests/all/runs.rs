@@ -22,7 +22,7 @@ fn month_of(users: i64, agents: i64, points: usize) -> MonthLines {
         month: 202_407,
         ons: 7,
         agents: (1..=agents).map(|number| Agent { number, pb: 10, pv: 1, afs: 0, rfs: 0, pa: 0, ret: 0 }).collect(),
-        users: (1..=users).map(|number| User { number, kind: CONSUMER, ret: 100 }).collect(),
+        users: (1..=users).map(|number| User { number, kind: CONSUMER, ret: 100, ong: number % 3 }).collect(),
         points: vec![Point { at: 1, tp: 1000, tf: 0, dp: 0, df: 0, mp: 9, mf: 0, vp: 9, vf: 0 }; points],
     }
 }
@@ -94,20 +94,20 @@ fn refusals_end_a_run_or_do_not() {
     assert_eq!(printed(broken.as_bytes()), "refused,5,2\n");
     assert_eq!(printed(format!("{}{}", broken, sound).as_bytes()), format!("refused,5,2\n{}", lines(sample::OUTPUT)));
     assert_eq!(printed(format!("{}{}", sound, sound).as_bytes()), format!("{}refused,3,0\n", lines(sample::OUTPUT)));
-    let three_users = later.replace("2,3,0\nat", "2,3,0\n3,2,0\nat");
+    let three_users = later.replace("2,3,0,0\nat", "2,3,0,0\n3,2,0,0\nat");
     let output = format!("{}refused,1,0\n", lines(sample::OUTPUT));
     assert_eq!(printed(format!("{}{}", sound, three_users).as_bytes()), output);
     // A refusal by reading or opening is the last word.
     let output = format!("{}refused,11,{}\n", lines(sample::OUTPUT), sound.len() + 2);
     assert_eq!(printed(format!("{}mo", sound).as_bytes()), output);
-    let no_users = sound.replace("1,2,0\n2,3,0\n", "");
+    let no_users = sound.replace("1,2,0,0\n2,3,0,0\n", "");
     assert_eq!(printed(format!("{}{}", no_users, sound).as_bytes()), "refused,1,0\n");
     assert_eq!(printed(b""), "refused,11,0\n");
 }
 
 #[test]
 fn held_credits_go_from_month_to_month() {
-    let credit = sample::INPUT.replace("1,2,0\n2,3,0", "1,2,-1000\n2,3,0");
+    let credit = sample::INPUT.replace("1,2,0,0\n2,3,0,0", "1,2,-1000,0\n2,3,0,0");
     let charge = sample::INPUT.replace("202407", "202409");
     let events = events(format!("{}{}", credit, charge).as_bytes());
     let debits_and_held: Vec<(Vec<i128>, Vec<i128>)> = events

@@ -37,6 +37,7 @@ fn users_as_one(lines: &MonthLines, k: usize) -> MonthLines {
     let mut one = lines.clone();
     let sister = one.users.remove(k + 1);
     one.users[k].ret += sister.ret;
+    one.users[k].ong += sister.ong;
     (1..).zip(&mut one.users).for_each(|(number, user)| user.number = number);
     one.points.iter_mut().filter(|point| point.at > k as i64 + 1).for_each(|point| point.at -= 1);
     one

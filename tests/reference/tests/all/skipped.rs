@@ -14,7 +14,7 @@ const MONTHS: &[u8] = include_bytes!("../../../../examples/skipped.csv");
 /// A month that is accepted, of one agent for each of these adjustments.
 fn month_of(month: i64, pa: &[i64]) -> MonthLines {
     let agent = |(number, &pa): (i64, &i64)| Agent { number, pb: 1, pv: 0, afs: 0, rfs: 0, pa, ret: 0 };
-    let users = vec![User { number: 1, kind: CONSUMER, ret: 100 }];
+    let users = vec![User { number: 1, kind: CONSUMER, ret: 100, ong: 0 }];
     MonthLines { month, ons: 0, agents: (1..).zip(pa).map(agent).collect(), users, points: vec![] }
 }
 

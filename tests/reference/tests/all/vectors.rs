@@ -52,6 +52,11 @@ fn runs_after_request_8() {
 }
 
 #[test]
+fn runs_after_request_1() {
+    file("runs-Q1.jsonl", 60);
+}
+
+#[test]
 fn json_is_read_as_written() {
     let read = json::parse(r#" {"a": [1, -20 ,null], "text":"x\n\"\\\u00e2\u0000é" , "none":[],"empty":{}} "#);
     let record = read.expect("sound JSON");

@@ -1,4 +1,5 @@
--- The bills stand first in their arrays: the credits of the payees and the debits make the table, and the new held credits are copied.
+-- The bills stand first in their arrays: the credits of the payees and the debits make the table, to whose last row the direct charges are
+-- added, and the new held credits are copied.
 use Prim.Native.Nat.{_+_, _≤_}
 use native.Mathlib.Omega.{arith}
 use mathlib.Core.Path.{_≡_, sym, _∙_}
@@ -13,7 +14,8 @@ use Rattle.rules.specs.Lines.{Lines}
 use Rattle.rules.specs.State.{State}
 use Rattle.rules.specs.Credits.{VCs}
 use Rattle.closing.specs.Written.{Writable}
-use Rattle.closing.proofs.Writing.{few-users, few-agents, payable, credits-are, first-debits, first-credits, first-payees, payees-reach, asked, written}
+use Rattle.closing.proofs.Writing.{few-users, few-agents, payable, credits-are, first-debits, first-credits, first-payees, payees-reach}
+use Rattle.closing.proofs.Writing.{asked, may-add, written}
 use Rattle.closing.proofs.write.write.Statement.{statement}
 use Rattle.closing.proofs.write.write.Tie as tie
 
@@ -31,7 +33,7 @@ arrays s = (search needs, search needs)
 
 abbrev MayWrite : tie.Start → State → Verdict → Lines → Type 0
 MayWrite s st short l = Writable (s .args .bills) (s .args .line) (s .args .agents .now) (s .args .held .now) (s .args .cells .now)
-    (s .args .work .now) (s .args .ledger) st short l
+    (s .args .work .now) (s .args .ledger) (s .args .users .now) st short l
 
 abbrev start : tie.After-vcs → tie.Start
 start c = c .before .before .before .before .before .before .before
@@ -69,23 +71,35 @@ fill-requires c κs =
     let e = credits-written v w in
     asked w (first-payees w e _ ∙ e) (first-debits w)
 
+add-requires : tie.Need-add-requires
+add-requires c κs =
+    let f = c .before .before .before .before in
+    let v = f .before .before .before .before .before .before in
+    let w = start v .pre .3 in
+    let e = credits-written v w in
+    may-add w (first-payees w e _ ∙ e) (first-debits w) (f .fill .ensures)
+
 array-share-prefix-credits : tie.Need-array-share-prefix-credits
-array-share-prefix-credits c = let s = start (c .before .before .before .before .before .before .before .before .before) in
+array-share-prefix-credits c = let s = start (c .before .before .before .before .before .before .before .before .before .before .before .before) in
     omega (arith, arrays s, few-users (s .pre .3))
 
 slice-aggregate-copy : tie.Need-slice-aggregate-copy
-slice-aggregate-copy c = let s = start (c .before .before .before .before .before .before .before .before .before .before) in
+slice-aggregate-copy c =
+    let s = start (c .before .before .before .before .before .before .before .before .before .before .before .before .before) in
     simp length-take (omega (arith, arrays s, few-users (s .pre .3)))
 
 copy-requires : tie.Need-copy-requires
-copy-requires c κs = let s = start (c .before .before .before .before .before .before .before .before .before .before .before) in
+copy-requires c κs =
+    let s = start (c .before .before .before .before .before .before .before .before .before .before .before .before .before .before) in
     simp length-take (omega (arith, arrays s, few-users (s .pre .3)))
 
 returns : tie.Need-returns
 returns c st short l w =
-    let f = c .before .before .before .before .before .before .before in
+    let a = c .before .before .before .before .before in
+    let f = a .before .before .before .before .before in
     let e = credits-written (f .before .before .before .before .before .before) w in
-    written w (first-payees w e _ ∙ e) (first-debits w) (f .fill .ensures) (c .before .copy .ensures ∙ first-credits w) (f .fill .kept .1 .1 .1 .0)
+    written w (first-payees w e _ ∙ e) (first-debits w) (f .fill .ensures) (a .add .ensures) (c .before .copy .ensures ∙ first-credits w)
+    (f .fill .kept .1 .1 .1 .0)
 
 pub write-spec : {M : Type 1} → statement M
 write-spec =
@@ -100,6 +114,7 @@ write-spec =
     array-share-prefix-debits
     slice-aggregate-fill-2
     fill-requires
+    add-requires
     array-share-prefix-credits
     slice-aggregate-copy
     copy-requires

@@ -9,7 +9,7 @@ use Rattle.runs.proofs.month.print_amounts.Tie as tie
 
 month-requires : tie.Need-month-requires
 month-requires c κs =
-    let s = c .before .before .before .before .before .before in
+    let s = c .before .before .before .before .before in
     let e : length (take (s .args .agents) (s .args .payee-rows .now)) ≡ s .args .agents = length-take-le _ _ (omega (arith, s .pre .payees-in)) in
     (s .pre .points-in, rw e (s .pre .table))
 
@@ -19,6 +19,5 @@ print-amounts-spec =
     (tie.spec
     (λ c. search needs) (λ c κs. search needs) (λ c. search needs) (λ c. search needs) (λ c. search needs)
     (λ c. sym (length-take-le _ _ (search needs)))
-    (λ c. search needs)
     month-requires
     (λ c. search needs) (λ c. search needs))

@@ -61,13 +61,13 @@ vmpa-requires c κs =
 
 slice-set-from-row : tie.Need-slice-set-from-row Inv-loop μ-loop
 slice-set-from-row c =
-    let l = c .before .before .before .before .before .before .before in
+    let l = c .before .before .before .before .before .before .before .before in
     let s = start (l .before .before) in
     omega (arith, filling-long (same s _ _) (l .before .loop .inv), l .loop-test .taken, s .pre .4)
 
 loop-again : tie.Need-loop-again Inv-loop μ-loop
 loop-again c =
-    let v = c .before .before .before in
+    let v = c .before .before .before .before in
     let w = v .before .before in
     let l = w .before .before in
     let m = l .before .before in
@@ -107,6 +107,7 @@ rows-spec =
     (λ c. search needs)
     vmpa-requires
     (λ c. search needs) (λ c. search needs) (λ c. search needs) (λ c. search needs) (λ c. search needs) (λ c. search needs)
+    (λ c. search needs) (λ c. search needs)
     slice-set-from-row
     (λ c. search needs) (λ c. search needs)
     loop-again

@@ -17,10 +17,11 @@ work-out-requires : tie.Need-work-out-requires
 work-out-requires c κs =
     let s = c .before .before .before .before in (
       rw (toZ-ofZ (s .fits .debits), toZ-ofZ (s .fits .last)) (s .pre .0),
+      rw (toZ-ofZ (s .fits .direct)) (s .pre .1),
       length-take-le _ _ (few s),
       length-take-le _ _ (few s),
       length-take-le _ _ (few s),
-      s .pre .1,
+      s .pre .2,
     )
 
 returns : tie.Need-returns
@@ -28,7 +29,7 @@ returns c =
     let d = c .before .before .before .before in
     let s = d .before .before .before .before .before in
     let f : SFits w64 (d .work-out .result) = search needs in
-    rw (toZ-ofZ f) (rw (toZ-ofZ (s .fits .debits), toZ-ofZ (s .fits .last)) at (d .work-out .ensures))
+    rw (toZ-ofZ f) (rw (toZ-ofZ (s .fits .debits), toZ-ofZ (s .fits .last), toZ-ofZ (s .fits .direct)) at (d .work-out .ensures))
 
 pub state-payees-spec : {M : Type 1} → statement M
 state-payees-spec =

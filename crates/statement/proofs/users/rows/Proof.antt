@@ -2,7 +2,7 @@
 use Prim.Native.Nat.{ℕ, _-_, _<_}
 use native.Mathlib.Omega.{arith}
 use mathlib.Core.Path.{_≡_, sym, _∙_}
-use mathlib.Core.List.{[]}
+use mathlib.Core.List.{[], _∷_}
 use borrow.Author.Needs.{needs, sfits-of}
 use lib.ListN.{length, getD}
 use mir.Syntax.{w64}
@@ -13,7 +13,7 @@ use Rattle.ints.specs.Fill.{Filling, filling-none, filling-long, filling-more, 
 use Rattle.rules.specs.Most.{mostAmount, mostCharged, mostHeld, mostParcels}
 use Rattle.statement.specs.Statement.{at}
 use Rattle.statement.specs.Columns.{userRowsBy}
-use Rattle.statement.proofs.Entries.{length-userRows, user-row-at}
+use Rattle.statement.proofs.Entries.{length-userRows, userRow, user-row-at}
 use Rattle.statement.proofs.users.rows.Statement.{statement}
 use Rattle.statement.proofs.users.rows.Tie as tie
 
@@ -56,13 +56,13 @@ net-requires c κs = let w = words c in rw (toZ-ofZ (w .0 .fits), toZ-ofZ (w .1 
 
 slice-set-from-row : tie.Need-slice-set-from-row Inv-loop μ-loop
 slice-set-from-row c =
-    let d = c .before .before .before .before .before .before .before .before .before in
+    let d = c .before .before .before .before .before .before .before .before .before .before in
     let s = start d in
     omega (arith, filling-long (same s) (turn d .before .loop .inv), turn d .loop-test .taken, s .pre .out-count)
 
 loop-again : tie.Need-loop-again Inv-loop μ-loop
 loop-again c =
-    let t = c .before .before .before .before .before in
+    let t = c .before .before .before .before .before .before in
     let e = t .before .before .before in
     let d = e .before in
     let s = start d in
@@ -73,22 +73,18 @@ loop-again c =
     let f₁ : SFits w64 (at (a .overruns .now) (i d)) = sfits-of (t .before .t23 .given) in
     let f₂ : SFits w64 (at (getD (a .users .now) (i d) []) 2) = sfits-of (t .t20 .given) in
     let f₃ : SFits w64 (e .net .result) = search needs in
-    let f₄ : SFits w64 (at (a .debits .now) (i d)) = sfits-of (c .before .t41 .given) in
-    let f₅ : SFits w64 (at (a .credits .now) (i d)) = sfits-of (c .t44 .given) in
+    let f₄ : SFits w64 (at (a .debits .now) (i d)) = sfits-of (c .before .before .t41 .given) in
+    let f₅ : SFits w64 (at (a .credits .now) (i d)) = sfits-of (c .before .t44 .given) in
+    let f₆ : SFits w64 (at (getD (a .users .now) (i d) []) 3) = search needs in
     let n = rw (toZ-ofZ (w .0 .fits), toZ-ofZ (w .1 .fits), toZ-ofZ (w .2 .fits)) at (e .net .ensures) in
-    rw (
-      toZ-ofZ f₀,
-      toZ-ofZ f₁,
-      toZ-ofZ f₂,
-      toZ-ofZ (w .0 .fits),
-      toZ-ofZ (w .1 .fits),
-      toZ-ofZ (w .2 .fits),
-      toZ-ofZ f₃,
-      toZ-ofZ f₄,
-      toZ-ofZ f₅,
-      n,
-    )
-    (filling-more (same s) (turn d .before .loop .inv) [] (omega (arith, h, s .pre .out-count)) (sym (user-row-at (s .pre) (i d) h)))
+    -- each value read back from its word
+    let written :
+    _
+    ≡ userRow (a .users .now) (a .uses .now) (a .overruns .now) (a .vme .now) (a .cpv .now) (a .held .now) (a .debits .now) (a .credits .now) (i d) =
+    λ k.
+    toZ-ofZ f₀ k ∷ toZ-ofZ f₁ k ∷ toZ-ofZ f₂ k ∷ toZ-ofZ (w .0 .fits) k ∷ toZ-ofZ (w .1 .fits) k ∷ toZ-ofZ (w .2 .fits) k ∷ (toZ-ofZ f₃ ∙ n) k
+    ∷ toZ-ofZ f₄ k ∷ toZ-ofZ f₅ k ∷ toZ-ofZ f₆ k ∷ [] in
+    filling-more (same s) (turn d .before .loop .inv) [] (omega (arith, h, s .pre .out-count)) (written ∙ sym (user-row-at (s .pre) (i d) h))
 
 returns : tie.Need-returns Inv-loop μ-loop
 returns c = let s = c .before .before in filling-all (same s) (c .before .loop .inv) (omega (arith, s .pre .out-count, c .loop-test .left))
@@ -105,7 +101,7 @@ rows-spec =
     net-requires
     (λ c. omega arith) (λ c. omega arith) (λ c. omega arith) (λ c. omega arith) (λ c. search needs) (λ c. omega arith) (λ c. omega arith)
     (λ c. omega arith) (λ c. omega arith) (λ c. omega arith) (λ c. omega arith) (λ c. omega arith) (λ c. omega arith) (λ c. omega arith)
-    (λ c. omega arith) (λ c. omega arith)
+    (λ c. omega arith) (λ c. search needs) (λ c. omega arith)
     slice-set-from-row
     (λ c. omega arith) (λ c. omega arith)
     loop-again
