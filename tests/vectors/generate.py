@@ -2,7 +2,9 @@
 """generate.py FOLDER: writes a fact for each vector beside this file, as the modules of a crate's proofs/.
 
 A fact says that the definitions, evaluated by the checker, give a vector's expected answer (Asked.antt.txt says what is
-asked of them). It has the number of the vector's line in its file, from 1.
+asked of them). It has the number of the vector's line in its file, from 1. Of the runs there is a fact for each month
+that those of runs-Q1 accept, on the ledger and the credits that the months before it leave: no closing of the base has
+direct charges.
 """
 import json
 import os
@@ -59,6 +61,38 @@ def quoted(text):
     return '"' + "".join(plain.get(c, c if " " <= c <= "~" else "\\u{%x}" % ord(c)) for c in text) + '"'
 
 
+# ---- the months of a run
+
+
+def month_file(text):
+    """The values of a month file after its first line of names."""
+    month, agents = text.split("agent,pb,pv,afs,rfs,pa,ret\n")
+    agents, users = agents.split("user,kind,ret,ong\n")
+    users, points = users.split("at,tp,tf,dp,df,mp,mf,vp,vf\n")
+    points = points.split("m")[0]  # where a further file begins, faulty in its first line
+    values = lambda lines: [[int(x) for x in line.split(",")] for line in lines.splitlines()]
+    (yyyymm, ons), = values(month)
+    return {"month": yyyymm, "ons": ons, "agents": values(agents), "users": values(users), "points": values(points)}
+
+
+def months(name):
+    """(its run's line and the file's place in it, the closing) of each month that the runs accept."""
+    for number, run in vectors(name):
+        ledger, held = None, None
+        texts = run["text"].replace("\r\n", "\n").split("month,ons\n")[1:]
+        for k, (event, text) in enumerate(zip(run["events"], texts), 1):
+            if event.get("refused", [0])[0] in (11, 12):  # what is refused so is no month file, and the last
+                break
+            v = month_file(text)
+            ledger = ledger or [len(v["users"]), len(v["agents"]), 0]
+            held = held or [0] * ledger[0]
+            if "refused" in event:
+                continue
+            expect = {"accepted": {a: event[a] for a in AMOUNTS}}
+            yield f"{number}-{k}", dict(v, ledger=ledger, held=held, cells_len=1088, work_len=2500, expect=expect)
+            ledger, held = ledger[:2] + [v["month"]], event["held"]
+
+
 # ---- statements
 
 
@@ -72,7 +106,7 @@ def opening(v):
     return f"opening {v['users']} {v['agents']} {v['held_len']}", record([("verdict", verdict), ("ledger", ledger(v["ledger"]))])
 
 
-AMOUNTS = ["eust", "overrun", "vme", "cpv", "n", "vd", "held", "vmst", "vmpa", "smse", "vmant", "vc"]
+AMOUNTS = ["eust", "overrun", "vme", "cpv", "n", "vd", "held", "ong", "vmst", "vmpa", "smse", "vmant", "vc", "credit"]
 
 
 def closing(v):
@@ -82,6 +116,8 @@ def closing(v):
         number, place = v["expect"]["refused"]
         return asked, f"comes-back {number} {place}"
     a = v["expect"]["accepted"]
+    # a closing of the base: no direct charges, so credits are the shared ones
+    a = {"ong": [0] * len(v["users"]), "credit": a["vc"], **a}
     assert set(a) == set(AMOUNTS), sorted(a)
     return asked, f"closes ({tall([(k, z(a[k]) if k == 'smse' else zs(a[k])) for k in AMOUNTS])})"
 
@@ -131,6 +167,9 @@ def modules():
         "Refusals": module(
             "Refused months", "closings", [lists, whole, asked % "minus, comes-back, closing"],
             ("closing", "closing", closing), [(i, v) for i, v in closings if "refused" in v["expect"]]),
+        "Months": module(
+            "Months of runs, every amount", "runs-Q1", [lists, whole, asked % "minus, closes, closing"],
+            ("month", "closing", closing), list(months("runs-Q1"))),
         "Readings": module(
             "Reading and the file check", "readings",
             [lists, whole, "Rattle.format.specs.Reading.{accepted, refused}", asked % "minus, texts"],
