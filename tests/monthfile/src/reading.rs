@@ -136,7 +136,8 @@ fn short_cases() -> Vec<Case> {
         add(How::AsItIs, rng.below(3) as u8, room, &text);
     }
     add(How::AsItIs, 0, [2, 2, 2], &[b"\xef\xbb\xbf", sample::INPUT.as_bytes()].concat());
-    add(How::Cut, 0, [2, 2, 2], &two);
+    // Into the second file; of both the long cases have it.
+    add(How::Cut, 0, [2, 2, 2], &two[..256]);
 
     // Lines that end in CR LF, all of them or some: every room, positions about a file's end, and the last LF missing.
     let worked = sample::INPUT.as_bytes();
@@ -185,6 +186,7 @@ fn long_cases() -> Vec<Case> {
     let none = texts::file(&MonthLines { month: -1, ons: 0, agents: vec![], users: vec![], points: vec![] });
     let two = two_files();
     let mut cases = vec![
+        Case { how: How::Cut, at: 0, room: [2, 2, 2], text: two.clone() },
         Case { how: How::Cut, at: 192, room: [2, 1, 2], text: two.clone() },
         Case { how: How::Cut, at: 203, room: [2, 2, 1], text: texts::cr_lf(&two) },
         Case { how: How::Changed, at: 0, room: [1, 1, 1], text: texts::cr_lf(&none) },
