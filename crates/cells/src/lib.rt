@@ -1,6 +1,8 @@
 // The table of cells (paper 01, "The table of cells"): who bills whom, to the cent.
 // First every cell is the floor of its exact value. The cents that rows and columns then lack are marks on broken cells: `deal` places
 // them row by row, `search` the few that are left, and it always can (specs/Cut.antt).
+#![tactic(auto)]
+
 mod deal;
 mod floors;
 mod search;

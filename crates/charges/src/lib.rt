@@ -1,5 +1,7 @@
 // Charges of a user (paper 01, "Charges of a user"): of a point, added over the points, the month's amounts of every user,
 // and the refusals that go by their sums.
+#![tactic(auto)]
+
 pub mod direct;
 pub mod month;
 pub mod point;

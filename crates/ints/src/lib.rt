@@ -1,4 +1,6 @@
 // The toolkit on whole numbers: its laws are in specs/, and its code is the one test that every limit goes by and the sum of a slice.
+#![tactic(auto)]
+
 ghost use Rattle.std.specs.Prelude.{◌≡◌};
 ghost use Rattle.ints.specs.Range.{outside};
 ghost use Rattle.ints.specs.Sums.{sum_ℤ};

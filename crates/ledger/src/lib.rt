@@ -1,4 +1,6 @@
 // The ledger (paper 01, "The ledger"): opening, and closing a month. What is proved of every list of closings stands in proofs/Demand.
+#![tactic(auto)]
+
 ghost use Rattle.std.specs.Prelude.{◌≡◌, List, map, pos, length, replicate};
 ghost use Rattle.rules.specs.declared.Point.{Point};
 ghost use Rattle.rules.specs.Lines.{point_of, month_lines};

@@ -4,6 +4,8 @@
 //   check                  the file check, over files on end
 //   values, rows, reading  the values of an accepted file: a line, the lines of a block, the whole reading into lines
 //   points, reader         the same with the points in a lent slice of records, and the record that holds text and position
+#![tactic(auto)]
+
 pub mod check;
 mod line;
 mod names;

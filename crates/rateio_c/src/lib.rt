@@ -1,4 +1,6 @@
 // What a holding's own billing program calls from C (paper 01, "The month file", last paragraph). include/rateio.h says it in C's words.
+#![tactic(auto)]
+
 ghost use Rattle.std.specs.Prelude.{◌≡◌};
 ghost use Rattle.format.specs.Machine.{check_of};
 ghost use Rattle.share.specs.Answer.{sharing, seen_by_c};

@@ -1,5 +1,7 @@
 // A point as its record and as its line, and the points of a month taken out of a lent slice of records (paper 01, "Where to use each
 // form"): only `taken` indexes such a slice.
+#![tactic(auto)]
+
 ghost use Rattle.std.specs.Prelude.{◌≡◌, min};
 ghost use Rattle.rules.specs.Lines.{point_of};
 ghost use Rattle.records.specs.Taking.{line_of, no_lines, Takes};

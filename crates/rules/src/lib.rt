@@ -1,4 +1,5 @@
 // The shapes that the calls share: lines, ledger, answers. What they mean is in specs/: paper 01 as definitions.
+#![tactic(auto)]
 
 // The month line (paper 01, "A month's lines"): yyyymm, and RMONS.
 #[derive(Drop)]

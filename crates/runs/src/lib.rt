@@ -6,6 +6,8 @@
 //   amounts  the lines of `consulta`: every amount of a month
 //   month    one month closed and printed
 //   files    file after file
+#![tactic(auto)]
+
 mod amounts;
 mod files;
 mod input;

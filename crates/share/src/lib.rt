@@ -1,4 +1,6 @@
 // The exact running share of an amount over weights (paper 01, "Units and arithmetic" and "The month file").
+#![tactic(auto)]
+
 ghost use Rattle.std.specs.Prelude.{◌≡◌, ◌+◌, ◌*◌, ◌<◌, ◌≤◌, pos, ◌*ℤ◌, if◌then◌else◌, nat_eq};
 ghost use Rattle.ints.specs.Bridge.{abs};
 ghost use Rattle.ints.specs.Floor.{floor};

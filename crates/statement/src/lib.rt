@@ -1,5 +1,7 @@
 // The statement of a month: every charge and every credit that stands behind its table of cells (paper 01, "Charges of a user" and
 // "Credits of a payee"). Nothing is closed by it: ledger and held credits stay as they are.
+#![tactic(auto)]
+
 pub mod columns;
 mod payees;
 mod points;

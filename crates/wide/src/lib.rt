@@ -1,5 +1,7 @@
 // Exact quotient and remainder of a × b over c where the product passes 64 bits (paper 01, "Units and arithmetic"): the product as
 // two words built from 32-bit halves, and two words divided by one.
+#![tactic(auto)]
+
 pub mod product;
 pub mod quotient;
 
