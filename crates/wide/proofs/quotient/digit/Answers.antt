@@ -1,11 +1,12 @@
--- With v = v1·2^29 + v0 and h = q·v1 + t, the dividend and p = q·v0 make q·v and m = t·2^29 + d: so q is the quotient, or one more where
--- p passes m, which it does by less than v.
 use Rattle.std.proofs.Common.{◌≡◌, ℕ, ◌+◌, ◌-◌, ◌*◌, ◌/◌, ◌%◌, ◌^◌, ◌<◌, ◌≤◌, ap, ◌∙◌, lt_of_le_of_lt, mul-le-mul_right, mod-lt, mul-le-mul, div-add-mod', sub-le, arith, rules}
 use native.Mathlib.Decide.{dec_le}
 use lib.Bits.{bit_and, and_mask}
 use Rattle.wide.proofs.Laws.{divided_is}
-use Rattle.wide.proofs.quotient.digit.Statement.{statement}
-use Rattle.wide.proofs.quotient.digit.Tie as tie
+use Rattle.wide.proofs.quotient.digit.Goals as goal
+use Rattle.wide.proofs.quotient.digit.Goals.{Start}
+
+-- With v = v1·2^29 + v0 and h = q·v1 + t, the dividend and p = q·v0 make q·v and m = t·2^29 + d: so q is the quotient, or one more where
+-- p passes m, which it does by less than v.
 
 -- a step's numbers: v in its upper and lower bits, h by the upper
 record Step (h d v v1 v0 q t : ℕ) : Type 0 where
@@ -62,7 +63,7 @@ below : (v p m : ℕ) → m < p → p - m ≤ v → v - (p - m) < v
 below v p m l k = omega arith
 
 -- at a place of the code
-step : (c : tie.Start) → Step c.args.h c.args.d c.args.v (c.args.v / 2 ^ 29) (bit_and c.args.v 536870911) (c.args.h / (c.args.v / 2 ^ 29))
+step : (c : Start) → Step c.args.h c.args.d c.args.v (c.args.v / 2 ^ 29) (bit_and c.args.v 536870911) (c.args.h / (c.args.v / 2 ^ 29))
     (c.args.h % (c.args.v / 2 ^ 29))
 step c =
     let a = c.args in
@@ -79,39 +80,36 @@ step c =
       d_lt = c.requires.2;
     }
 
-mul-m : tie.Need-overflow-mul-m
-mul-m c = omega (arith, left_lt (step c), c.ranges.v)
+pub overflow_mul-m : goal.overflow_mul-m
+overflow_mul-m c = omega (arith, left_lt (step c), c.ranges.v)
 
-add-m : tie.Need-overflow-add-m
-add-m c = omega (arith, left_lt (step c), c.ranges.v)
+pub overflow_add-m : goal.overflow_add-m
+overflow_add-m c = omega (arith, left_lt (step c), c.ranges.v)
 
-mul-p : tie.Need-overflow-mul-p
-mul-p c = omega (arith, p_lt (step c))
+pub overflow_mul-p : goal.overflow_mul-p
+overflow_mul-p c = omega (arith, p_lt (step c))
 
-returns : tie.Need-returns
-returns c =
-    let a = c.before.args in
+pub returns-then-p-m : goal.returns-then-p-m
+returns-then-p-m c =
+    let a = c.args in
     let s = step c.before in
-    divided_is (a.h / (a.v / 2 ^ 29)) a.v _ (a.h * 2 ^ 29 + a.d) (exact s c.if1.true) (lt_of_le_of_lt (sub-le _ _) (left_lt s))
+    divided_is (a.h / (a.v / 2 ^ 29)) a.v _ (a.h * 2 ^ 29 + a.d) (exact s c.if-p-m.true) (lt_of_le_of_lt (sub-le _ _) (left_lt s))
 
-sub-t9 : tie.Need-overflow-sub-t9
-sub-t9 c = not_none _ (bit_and c.before.args.v 536870911) _ c.if1.false
+pub overflow_sub-result-2 : goal.overflow_sub-result-2
+overflow_sub-result-2 c = not_none _ (bit_and c.args.v 536870911) _ c.if-p-m.false
 
-sub-t12 : tie.Need-overflow-sub-t12
-sub-t12 c = passes _ _ _ (p_lt (step c.before)) c.before.requires.0
+pub overflow_sub-result-4 : goal.overflow_sub-result-4
+overflow_sub-result-4 c = passes _ _ _ (p_lt (step c.before)) c.requires.0
 
-returns-2 : tie.Need-returns-2
-returns-2 c =
-    let a = c.before.args in
+pub returns : goal.returns
+returns c =
+    let a = c.args in
     let s = step c.before in
     let q = a.h / (a.v / 2 ^ 29) in
     let m = a.h % (a.v / 2 ^ 29) * 2 ^ 29 + a.d in
     let p = q * bit_and a.v 536870911 in
-    let l : m < p = c.if1.false in
-    let k : p - m ≤ a.v = passes p m a.v (p_lt s) c.before.requires.0 in
+    let l : m < p = c.if-p-m.false in
+    let k : p - m ≤ a.v = passes p m a.v (p_lt s) c.requires.0 in
     divided_is (q - 1) a.v (a.v - (p - m)) (a.h * 2 ^ 29 + a.d)
     (less_one (a.h * 2 ^ 29 + a.d) a.v q p m (balance s) l k (not_none q (bit_and a.v 536870911) m l))
     (below a.v p m l k)
-
-pub digit_spec : {M : Type 1} → statement M
-digit_spec = tie.close (tie.spec (λ c. search rules) (λ c. search rules) mul-m add-m mul-p returns sub-t9 (λ c. search rules) sub-t12 returns-2)

@@ -1,9 +1,9 @@
--- a × b = a1·b1·2^64 + (a0·b1 + a1·b0)·2^32 + a0·b0, and the columns with their carries add up to that.
 use Rattle.std.proofs.Common.{◌≡◌, ℕ, ◌+◌, ◌*◌, ◌/◌, ◌%◌, ◌^◌, ◌<◌, ◌≤◌, ap, ◌∙◌, ap₂, mod-lt, mul-le-mul, div-add-mod', arith, pow_pos, rules}
 use mathlib.Core.Path.{subst⁻¹}
 use Rattle.wide.proofs.Laws.{words_is}
-use Rattle.wide.proofs.product.multiply.Statement.{statement}
-use Rattle.wide.proofs.product.multiply.Tie as tie
+use Rattle.wide.proofs.product.multiply.Goals as goal
+
+-- a × b = a1·b1·2^64 + (a0·b1 + a1·b0)·2^32 + a0·b0, and the columns with their carries add up to that.
 
 -- the largest product of two halves, (2^32 − 1)²
 abbrev K : ℕ
@@ -90,73 +90,73 @@ module _ (a b : ℕ) (a-fits : a < 2 ^ 64) (b-fits : b < 2 ^ 64) where
       ∙ expand (2 ^ 32) (a / 2 ^ 32) (a % 2 ^ 32) (b / 2 ^ 32) (b % 2 ^ 32)
       ∙ ap₂ ◌*◌ (div-add-mod' a (2 ^ 32)) (div-add-mod' b (2 ^ 32))
 
-mul-add : tie.Need-overflow-mul-add
-mul-add c = omega (arith, half_product c.before.before.before.low_half_lem.result c.high-half2.result (omega arith) (omega arith))
+pub overflow_mul-a0 : goal.overflow_mul-a0
+overflow_mul-a0 c = omega (arith, half_product c.low_half-a0.result c.high_half-b1.result (omega arith) (omega arith))
 
-mul-add-2 : tie.Need-overflow-mul-add-2
-mul-add-2 c = omega (arith, half_product c.before.before.high_half_lem.result c.before.low-half2.result (omega arith) (omega arith))
+pub overflow_mul-a1 : goal.overflow_mul-a1
+overflow_mul-a1 c = omega (arith, half_product c.high_half-a1.result c.low_half-b0.result (omega arith) (omega arith))
 
-mul-add-3 : tie.Need-overflow-mul-add-3
-mul-add-3 c = omega (
+pub overflow_mul-a0-2 : goal.overflow_mul-a0-2
+overflow_mul-a0-2 c = omega (
   arith,
-  half_product c.before.before.before.before.low_half_lem.result c.before.before.low-half2.result (omega arith)
+  half_product c.low_half-a0.result c.low_half-b0.result (omega arith)
       (omega arith),
 )
 
-mul-t9 : tie.Need-overflow-mul-t9
-mul-t9 c = omega (
+pub overflow_mul-result : goal.overflow_mul-result
+overflow_mul-result c = omega (
   arith,
-  half_product c.before.before.before.before.before.high_half_lem.result c.before.before.before.high-half2.result
+  half_product c.high_half-a1.result c.high_half-b1.result
       (omega arith) (omega arith),
 )
 
-add-t11 : tie.Need-overflow-add-t11
-add-t11 c =
+pub overflow_add-result : goal.overflow_add-result
+overflow_add-result c =
     let n = c.before.before.before in
     let h = n.before in
     let s = h.before.before.before.before in
     simp (
-      n.add.ensures,
-      h.high-half2.ensures,
-      h.before.low-half2.ensures,
-      h.before.before.high_half_lem.ensures,
-      h.before.before.before.low_half_lem.ensures,
+      n.add-middle.ensures,
+      h.high_half-b1.ensures,
+      h.low_half-b0.ensures,
+      h.high_half-a1.ensures,
+      h.low_half-a0.ensures,
     )
     (record { fits = two_of_four _ _ _ _ _ (high_word s.args.a s.args.b s.ranges.a.fits s.ranges.b.fits) })
 
-add-t13 : tie.Need-overflow-add-t13
-add-t13 c =
+pub overflow_add-result-2 : goal.overflow_add-result-2
+overflow_add-result-2 c =
     let n = c.before.before.before.before in
     let h = n.before in
     let s = h.before.before.before.before in
     simp (
-      c.high-half3.ensures,
-      n.add.ensures,
-      h.high-half2.ensures,
-      h.before.low-half2.ensures,
-      h.before.before.high_half_lem.ensures,
-      h.before.before.before.low_half_lem.ensures,
+      c.high_half.ensures,
+      n.add-middle.ensures,
+      h.high_half-b1.ensures,
+      h.low_half-b0.ensures,
+      h.high_half-a1.ensures,
+      h.low_half-a0.ensures,
     )
     (record { fits = three_of_four _ _ _ _ _ (high_word s.args.a s.args.b s.ranges.a.fits s.ranges.b.fits) })
 
-add-t14 : tie.Need-overflow-add-t14
-add-t14 c =
+pub overflow_add-result-3 : goal.overflow_add-result-3
+overflow_add-result-3 c =
     let d = c.before in
     let n = d.before.before.before.before in
     let h = n.before in
     let s = h.before.before.before.before in
     simp (
-      d.high-half3.ensures,
-      d.before.before.add2.ensures,
-      n.add.ensures,
-      h.high-half2.ensures,
-      h.before.low-half2.ensures,
-      h.before.before.high_half_lem.ensures,
-      h.before.before.before.low_half_lem.ensures,
+      d.high_half.ensures,
+      d.add-low.ensures,
+      n.add-middle.ensures,
+      h.high_half-b1.ensures,
+      h.low_half-b0.ensures,
+      h.high_half-a1.ensures,
+      h.low_half-a0.ensures,
     )
     (record { fits = high_word s.args.a s.args.b s.ranges.a.fits s.ranges.b.fits })
 
-returns : tie.Need-returns
+pub returns : goal.returns
 returns c =
     let d = c.before in
     let n = d.before.before.before.before in
@@ -165,30 +165,13 @@ returns c =
     let a = s.args.a in
     let b = s.args.b in
     simp (
-      d.high-half3.ensures,
-      d.before.before.add2.ensures,
-      n.add.ensures,
-      h.high-half2.ensures,
-      h.before.low-half2.ensures,
-      h.before.before.high_half_lem.ensures,
-      h.before.before.before.low_half_lem.ensures,
+      d.high_half.ensures,
+      d.add-low.ensures,
+      n.add-middle.ensures,
+      h.high_half-b1.ensures,
+      h.low_half-b0.ensures,
+      h.high_half-a1.ensures,
+      h.low_half-a0.ensures,
     )
     (words_is (high (top a b) (across a b) (bottom a b)) (column (across a b) (bottom a b) % 2 ^ 64) (a * b) (whole a b s.ranges.a.fits s.ranges.b.fits)
     (mod-lt _ (pow_pos 64)))
-
-pub multiply_spec : {M : Type 1} → statement M
-multiply_spec =
-    tie.close
-    (tie.spec
-    (λ c κs. search rules) (λ c κs. search rules) (λ c κs. search rules) (λ c κs. search rules)
-    mul-add
-    mul-add-2
-    (λ c κs. search rules)
-    mul-add-3
-    (λ c κs. search rules)
-    mul-t9
-    add-t11
-    (λ c κs. search rules)
-    add-t13
-    add-t14
-    returns)

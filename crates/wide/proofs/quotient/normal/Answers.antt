@@ -1,11 +1,12 @@
--- A short quotient is two digits of the two words as they stand; a longer one is that of all but the last 6 bits, and then of those.
 use Rattle.std.proofs.Common.{◌≡◌, ℕ, ◌+◌, ◌*◌, ◌/◌, ◌%◌, ◌^◌, ◌<◌, ◌≤◌, ap, ◌∙◌, arith, rules}
 use lib.Bits.{bit_and, and_mask}
 use mir.Facts.{Fits-cat, Fits-shl}
 use Rattle.wide.specs.Exact.{divided}
 use Rattle.wide.proofs.Laws.{Divides, divides, quot_lt, next_digits, divided_is}
-use Rattle.wide.proofs.quotient.normal.Statement.{statement}
-use Rattle.wide.proofs.quotient.normal.Tie as tie
+use Rattle.wide.proofs.quotient.normal.Goals as goal
+use Rattle.wide.proofs.quotient.normal.Goals.{After-two_digits-first, After-two_digits-second, Then-high-v}
+
+-- A short quotient is two digits of the two words as they stand; a longer one is that of all but the last 6 bits, and then of those.
 
 positive : (v : ℕ) → 2 ^ 63 ≤ v → 0 < v
 positive v h = omega arith
@@ -43,71 +44,64 @@ upper_lt r v h = omega arith
 mul-two-digits : tie.Need-overflow-mul-two-digits
 mul-two-digits c = search rules
 
-short : (c : tie.Then1) → let a = c.before.args in a.high * 64 + a.low / 2 ^ 58 < a.v
-short c = top_lt c.before.args.high c.before.args.low c.before.args.v c.if1.true c.before.ranges.low.fits
+short : (c : Then-high-v) → let a = c.args in a.high * 64 + a.low / 2 ^ 58 < a.v
+short c = top_lt c.args.high c.args.low c.args.v c.if-high-v.true c.ranges.low.fits
 
-returns : tie.Need-returns
-returns c =
-    let a = c.before.before.args in
+pub returns-then-high-v : goal.returns-then-high-v
+returns-then-high-v c =
+    let a = c.args in
     c.two_digits.ensures ∙ ap (λ (n : ℕ). divided n a.v) (whole a.high a.low)
 
-first : (c : tie.After-two-digits2) → let a = c.before.before.args in Divides (a.high * 2 ^ 58 + a.low / 64) a.v c.two-digits2.result
-first c = divides (positive c.before.before.args.v c.before.before.requires.0) c.two-digits2.ensures
+first : (c : After-two_digits-first) → let a = c.args in Divides (a.high * 2 ^ 58 + a.low / 64) a.v c.two_digits-first.result
+first c = divides (positive c.args.v c.requires.0) c.two_digits-first.ensures
 
-first_lt : (c : tie.After-two-digits2) → c.two-digits2.result.quot < 2 ^ 58
+first_lt : (c : After-two_digits-first) → c.two_digits-first.result.quot < 2 ^ 58
 first_lt c =
     let s = c.before.before in
-    quot_lt (2 ^ 58) (positive s.args.v s.requires.0) c.two-digits2.ensures
+    quot_lt (2 ^ 58) (positive s.args.v s.requires.0) c.two_digits-first.ensures
     (most_lt s.args.high s.args.low s.args.v s.requires.1 s.ranges.low.fits)
 
-mul-two-digits-2 : tie.Need-overflow-mul-two-digits-2
-mul-two-digits-2 c = omega (arith, and_mask c.before.before.two-digits2.result.rem 52)
+pub overflow_mul-first : goal.overflow_mul-first
+overflow_mul-first c = omega (arith, and_mask c.two_digits-first.result.rem 52)
 
-add-two-digits-2 : tie.Need-overflow-add-two-digits-2
-add-two-digits-2 c = omega (arith, bits c.before.before.two-digits2.result.rem c.before.before.before.before.args.low)
+pub overflow_add-first : goal.overflow_add-first
+overflow_add-first c = omega (arith, bits c.two_digits-first.result.rem c.args.low)
 
-two-digits-requires-3 : tie.Need-two-digits-requires-3
-two-digits-requires-3 c κs =
+pub two_digits-second-requires : goal.two_digits-second-requires
+two_digits-second-requires c =
     let d = c.before.before in
     let s = d.before.before in
-    let r = d.two-digits2.result.rem in
+    let r = d.two_digits-first.result.rem in
     (s.requires.0, upper_lt r s.args.v (first d).small, bits r s.args.low)
 
-second_lt : (c : tie.After-two-digits3) → c.two-digits3.result.quot < 2 ^ 6
+second_lt : (c : After-two_digits-second) → c.two_digits-second.result.quot < 2 ^ 6
 second_lt c =
     let d = c.before.before.before in
     let s = d.before.before in
-    quot_lt (2 ^ 6) (positive s.args.v s.requires.0) c.two-digits3.ensures
-    (left_lt d.two-digits2.result.rem s.args.low s.args.v (first d).small)
+    quot_lt (2 ^ 6) (positive s.args.v s.requires.0) c.two_digits-second.ensures
+    (left_lt d.two_digits-first.result.rem s.args.low s.args.v (first d).small)
 
-add-t15 : tie.Need-overflow-add-t15
-add-t15 c = Fits-cat 58 6 tt (first_lt c.before.before.before.before.before) (second_lt c.before.before)
+pub overflow_add-result : goal.overflow_add-result
+overflow_add-result c = Fits-cat 58 6 tt (first_lt c.before.before.before.before.before) (second_lt c.before.before)
 
-returns-2 : tie.Need-returns-2
-returns-2 c =
+pub returns : goal.returns
+returns c =
     let e = c.before.before in
     let d = e.before.before.before in
     let s = d.before.before in
     let z = positive s.args.v s.requires.0 in
-    let r = d.two-digits2.result.rem in
-    let t = divides z e.two-digits3.ensures in
+    let r = d.two_digits-first.result.rem in
+    let t = divides z e.two_digits-second.ensures in
     divided_is _ s.args.v _ (s.args.high * 2 ^ 64 + s.args.low)
     (next_digits 64 s.args.v (s.args.high * 2 ^ 58 + s.args.low / 64) (bit_and s.args.low 63) _ _ _ _ (first d).whole (t.whole
     ∙ left r s.args.low) ∙ both s.args.high s.args.low)
     t.small
 
-pub normal_spec : {M : Type 1} → statement M
-normal_spec =
-    tie.close
-    (tie.spec
-    (λ c. search rules)
-    (λ c. omega (arith, short c, c.before.ranges.v))
-    (λ c κs. (c.before.requires.0, short c, rest_lt c.before.args.low))
-    returns
-    (λ c κs. search rules)
-    mul-two-digits-2
-    add-two-digits-2
-    two-digits-requires-3
-    (λ c. Fits-shl 58 6 tt (first_lt c.before.before.before.before))
-    add-t15
-    returns-2)
+pub overflow_add-high : goal.overflow_add-high
+overflow_add-high c = omega (arith, short c, c.ranges.v)
+
+pub two_digits-requires : goal.two_digits-requires
+two_digits-requires c = (c.requires.0, short c, rest_lt c.args.low)
+
+pub overflow_mul-result : goal.overflow_mul-result
+overflow_mul-result c = Fits-shl 58 6 tt (first_lt c.before.before.before.before)
