@@ -6,21 +6,21 @@ pub mod product;
 pub mod quotient;
 
 // A number of two words.
-#[derive(Drop)]
+#[derive(Clone, Copy)]
 pub struct Words {
     pub high: u64,
     pub low: u64,
 }
 
 // A quotient and its remainder.
-#[derive(Drop)]
+#[derive(Clone, Copy)]
 pub struct Divided {
     pub quot: u64,
     pub rem: u64,
 }
 
 // a × b over c.
-#[derive(Drop)]
+#[derive(Clone, Copy)]
 pub enum Ratio {
     Exact(Divided),
     // the quotient passes 64 bits

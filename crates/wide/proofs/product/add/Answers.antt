@@ -1,4 +1,4 @@
-use Rattle.std.proofs.Common.{◌+◌, arith, rules}
+use Rattle.std.proofs.Common.{◌+◌, arith}
 use Rattle.wide.proofs.Laws.{words_is}
 use Rattle.wide.proofs.product.add.Goals as goal
 

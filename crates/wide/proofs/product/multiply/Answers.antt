@@ -1,4 +1,4 @@
-use Rattle.std.proofs.Common.{◌≡◌, ℕ, ◌+◌, ◌*◌, ◌/◌, ◌%◌, ◌^◌, ◌<◌, ◌≤◌, ap, ◌∙◌, ap₂, mod-lt, mul-le-mul, div-add-mod', arith, pow_pos, rules}
+use Rattle.std.proofs.Common.{◌≡◌, ℕ, ◌+◌, ◌*◌, ◌/◌, ◌%◌, ◌^◌, ◌<◌, ◌≤◌, ap, ◌∙◌, ap₂, mod-lt, mul-le-mul, div-add-mod', arith, pow_pos}
 use mathlib.Core.Path.{subst⁻¹}
 use Rattle.wide.proofs.Laws.{words_is}
 use Rattle.wide.proofs.product.multiply.Goals as goal

@@ -1,4 +1,4 @@
-use Rattle.std.proofs.Common.{◌≡◌, ℕ, ◌+◌, ◌-◌, ◌*◌, ◌/◌, ◌%◌, ◌^◌, ◌<◌, ◌≤◌, ap, ◌∙◌, lt_of_le_of_lt, mul-le-mul_right, mod-lt, mul-le-mul, div-add-mod', sub-le, arith, rules}
+use Rattle.std.proofs.Common.{◌≡◌, ℕ, ◌+◌, ◌-◌, ◌*◌, ◌/◌, ◌%◌, ◌^◌, ◌<◌, ◌≤◌, ap, lt_of_le_of_lt, mul-le-mul_right, mod-lt, mul-le-mul, div-add-mod', sub-le, arith}
 use native.Mathlib.Decide.{dec_le}
 use lib.Bits.{bit_and, and_mask}
 use Rattle.wide.proofs.Laws.{divided_is}

@@ -2,7 +2,7 @@ use Rattle.std.proofs.Common.{◌≡◌, ℕ, suc, ◌+◌, ◌-◌, ◌*◌, �
 use native.Mathlib.Nat.{mul-add-div_right}
 use lib.Arith.{digits_mod}
 use lib.Count.{count_leading_zeros, leading_top}
-use Rattle.wide.proofs.Laws.{Divides, divides, divided_is}
+use Rattle.wide.proofs.Laws.{divides, divided_is}
 use Rattle.wide.proofs.quotient.divide.Goals as goal
 use Rattle.wide.proofs.quotient.divide.Goals.{Start}
 

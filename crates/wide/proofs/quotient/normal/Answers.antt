@@ -1,4 +1,4 @@
-use Rattle.std.proofs.Common.{◌≡◌, ℕ, ◌+◌, ◌*◌, ◌/◌, ◌%◌, ◌^◌, ◌<◌, ◌≤◌, ap, ◌∙◌, arith, rules}
+use Rattle.std.proofs.Common.{◌≡◌, ℕ, ◌+◌, ◌*◌, ◌/◌, ◌^◌, ◌<◌, ◌≤◌, ap, ◌∙◌, arith}
 use lib.Bits.{bit_and, and_mask}
 use mir.Facts.{Fits-cat, Fits-shl}
 use Rattle.wide.specs.Exact.{divided}
@@ -41,9 +41,6 @@ upper_lt : (r v : ℕ) → r < v → r / 2 ^ 52 < v
 upper_lt r v h = omega arith
 
 -- ---- at the places of the code
-mul-two-digits : tie.Need-overflow-mul-two-digits
-mul-two-digits c = search rules
-
 short : (c : Then-high-v) → let a = c.args in a.high * 64 + a.low / 2 ^ 58 < a.v
 short c = top_lt c.args.high c.args.low c.args.v c.if-high-v.true c.ranges.low.fits
 

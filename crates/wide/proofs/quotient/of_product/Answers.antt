@@ -1,4 +1,4 @@
-use Rattle.std.proofs.Common.{◌≡◌, ℕ, ◌+◌, ◌*◌, ◌/◌, ◌%◌, ◌^◌, ◌<◌, ◌≤◌, sym, ap, ◌∙◌, subst, lt_of_le_of_lt, div-lt_iff_lt-mul, pos_of_ne-zero, div-add-mod', le-div_iff_mul-le, div-le_self, arith, w64, Fits, rules}
+use Rattle.std.proofs.Common.{◌≡◌, ℕ, ◌+◌, ◌*◌, ◌/◌, ◌^◌, ◌<◌, ◌≤◌, sym, ap, ◌∙◌, subst, lt_of_le_of_lt, div-lt_iff_lt-mul, pos_of_ne-zero, div-add-mod', le-div_iff_mul-le, div-le_self, arith, w64, Fits, rules}
 use Rattle.wide.specs.declared.Words.{Words}
 use Rattle.wide.specs.declared.Ratio.TheVariants.{Exact}
 use Rattle.wide.specs.Exact.{divided, ratio, words}

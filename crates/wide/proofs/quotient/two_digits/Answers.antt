@@ -1,4 +1,4 @@
-use Rattle.std.proofs.Common.{◌≡◌, ℕ, ◌+◌, ◌*◌, ◌/◌, ◌%◌, ◌^◌, ◌<◌, ◌≤◌, ap, ◌∙◌, arith, rules}
+use Rattle.std.proofs.Common.{◌≡◌, ℕ, ◌+◌, ◌*◌, ◌/◌, ◌^◌, ◌<◌, ◌≤◌, ◌∙◌, arith}
 use lib.Bits.{bit_and, and_mask}
 use mir.Facts.{Fits-cat, Fits-shl}
 use Rattle.wide.proofs.Laws.{Divides, divides, quot_lt, next_digits, divided_is}
