@@ -29,7 +29,7 @@ check s = check_of (bytes s)
 -- accepted: one file, two on end, and a file of one month line and no others
 accepts :
     map check
-    (input ∷ (input ++ input) ∷ "month,ons\n_1,0\nagent,pb,pv,afs,rfs,pa,ret\nuser,kind,ret,ong\nat,tp,tf,dp,df,mp,mf,vp,vf\n" ∷ [])
+    (input ∷ (input ++ input) ∷ "month,ons\n-1,0\nagent,pb,pv,afs,rfs,pa,ret\nuser,kind,ret,ong\nat,tp,tf,dp,df,mp,mf,vp,vf\n" ∷ [])
     ≡ negsuc 0 ∷ negsuc 0 ∷ negsuc 0 ∷ []
 unfolding check_of judge onward format more line in_value enter step
 accepts = refl
@@ -37,7 +37,7 @@ accepts = refl
 -- values: -0 at the 0; 01 at the 1; a 19th digit at that digit; two minus signs at the second; a plus sign; no value
 wrong_values :
     map check
-    ("month,ons\n_0" ∷ "month,ons\n01" ∷ "month,ons\n1234567890123456789" ∷ "month,ons\n--1" ∷ "month,ons\n+1" ∷ "month,ons\n," ∷ [])
+    ("month,ons\n-0" ∷ "month,ons\n01" ∷ "month,ons\n1234567890123456789" ∷ "month,ons\n--1" ∷ "month,ons\n+1" ∷ "month,ons\n," ∷ [])
     ≡ pos 11 ∷ pos 11 ∷ pos 28 ∷ pos 11 ∷ pos 10 ∷ pos 10 ∷ []
 unfolding check_of judge onward format more line in_value enter step
 wrong_values = refl

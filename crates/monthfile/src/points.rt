@@ -12,7 +12,7 @@ use crate::values::line_at;
 use rules::{AgentLine, Point, UserLine};
 
 // A point, and the place after its line.
-#[derive(Drop)]
+#[derive(Clone, Copy)]
 struct PointRead {
     pub point: Point,
     pub next: usize,

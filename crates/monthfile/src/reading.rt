@@ -13,7 +13,7 @@ use rules::{AgentLine, MonthLine, PointLine, UserLine};
 
 // What reading answers: the month line, how many lines there are of each kind and the position after the file, or paper 01's number
 // and place.
-#[derive(Drop)]
+#[derive(Clone, Copy)]
 pub struct Header {
     pub line: MonthLine,
     pub agents: usize,
@@ -22,14 +22,14 @@ pub struct Header {
     pub next: usize,
 }
 
-#[derive(Drop)]
+#[derive(Clone, Copy)]
 pub enum Reading {
     Accepted(Header),
     Refused(u64, usize),
 }
 
 // The month line, and the place after it.
-#[derive(Drop)]
+#[derive(Clone, Copy)]
 struct MonthRead {
     pub line: MonthLine,
     pub next: usize,

@@ -5,13 +5,13 @@ ghost use Rattle.format.specs.Values.{past_end, past};
 ghost use Rattle.monthfile.specs.At.{DigitsAt, ValueAt, LineAt, On, LeftAt};
 
 // A number read, and the place after it.
-#[derive(Drop)]
+#[derive(Clone, Copy)]
 struct Digits {
     pub number: u64,
     pub next: usize,
 }
 
-#[derive(Drop)]
+#[derive(Clone, Copy)]
 struct Value {
     pub value: i64,
     pub next: usize,

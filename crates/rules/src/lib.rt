@@ -2,7 +2,7 @@
 #![tactic(auto)]
 
 // The month line (paper 01, "A month's lines"): yyyymm, and RMONS.
-#[derive(Drop)]
+#[derive(Clone, Copy)]
 pub struct MonthLine {
     pub month: i64,
     pub ons: i64,
@@ -18,7 +18,7 @@ pub type PointLine = [i64; 9];
 pub mod columns;
 
 // A connection point's line: its user, then peak and off_peak tariff, discount, contracted and verified power.
-#[derive(Drop)]
+#[derive(Clone, Copy)]
 pub struct Point {
     pub user: i64,
     pub tp: i64,
@@ -32,7 +32,7 @@ pub struct Point {
 }
 
 // The ledger (paper 01, "The ledger"): the counts of an accepted opening and the last closed month, 0 for none.
-#[derive(Drop)]
+#[derive(Clone, Copy)]
 pub struct Ledger {
     pub users: u64,
     pub agents: u64,
@@ -40,14 +40,14 @@ pub struct Ledger {
 }
 
 // What opening and closing answer: accepted, or refused with paper 01's number and place.
-#[derive(Drop)]
+#[derive(Clone, Copy)]
 pub enum Answer {
     Accepted,
     Refused(u64, u64),
 }
 
 // The answer of opening or closing, with the ledger that holds from then on.
-#[derive(Drop)]
+#[derive(Clone, Copy)]
 pub struct Outcome {
     pub answer: Answer,
     pub ledger: Ledger,

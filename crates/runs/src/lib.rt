@@ -19,7 +19,7 @@ mod table;
 use crate::input::Input;
 
 // What is printed of a closed month: its cells and the new held credits, or every amount.
-#[derive(Drop)]
+#[derive(Clone, Copy)]
 pub enum Print {
     Table,
     Amounts,

@@ -7,7 +7,7 @@ use crate::lines;
 const LONGEST: usize = 119;
 
 // Who receives: an agent by its number, or ONS.
-#[derive(Drop)]
+#[derive(Clone, Copy)]
 pub enum Payee {
     Nobody,
     Agent(u64),

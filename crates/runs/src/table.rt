@@ -8,7 +8,7 @@ use crate::lines;
 const LONGEST: usize = 96;
 
 // Who receives: an agent by its number, ONS, or the user itself, as a held credit.
-#[derive(Drop)]
+#[derive(Clone, Copy)]
 pub enum Payee {
     Agent(u64),
     Ons,

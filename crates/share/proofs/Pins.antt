@@ -7,6 +7,7 @@ use prog.Model.{Model}
 use types.Logic.{Logic}
 use contract.Monad.{fact}
 use contract.Running.{Running}
+use prog.Wired.{Wired}
 use denote.Triple.Spec.{Spec, Meets, exits}
 use Rattle.std.proofs.Common.{◌≡◌}
 use Rattle.share.specs.Answer.{sharing, answer_of}
@@ -26,5 +27,5 @@ module _ {M : Type 1} {𝓤 : Ura M} (𝓛 : Logic 𝓤) (𝓜 : Model 𝓤 𝓛
             (λ e. fact 𝓤 (answer_of r ≡ sharing a.0 a.1.0 a.1.1.0 a.1.1.1.0));
       }
 
-  pub part_meets : Meets 𝓛 part.signature (𝓡.run part_code.routine) part_promise
+  pub part_meets : Wired 𝓡.env part_code.code → Meets 𝓛 part.signature (𝓡.run (𝓡.env part_code.name)) part_promise
   part_meets = part_met.met 𝓤 𝓛 𝓜 𝓡

@@ -18,7 +18,7 @@ use wide::{Divided, Ratio};
 const LIMIT: i64 = 100_000_000_000_000_000;
 
 // The answer of `part`: the part, or which argument is out of its limits.
-#[derive(Drop)]
+#[derive(Clone, Copy)]
 pub enum Shared {
     Part(i64),
     BadAmount,
@@ -40,7 +40,7 @@ fn scaled(a: u64, t: u64, w: u64) -> Divided
 }
 
 // A size over w: whole times w and part, and part over w as a fraction of 2^63.
-#[derive(Drop)]
+#[derive(Clone, Copy)]
 pub struct Rate {
     pub size: u64,
     pub whole: u64,
@@ -49,7 +49,7 @@ pub struct Rate {
 }
 
 // p × t over w: the quotient rounded down, and what is left over.
-#[derive(Drop)]
+#[derive(Clone, Copy)]
 pub struct Floored {
     pub quot: i64,
     pub rem: u64,

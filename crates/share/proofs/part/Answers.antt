@@ -1,4 +1,3 @@
--- The refusals in their order; past them both floors are no larger than the amount, so their difference is a word.
 use Rattle.std.proofs.Common.{◌≡◌, ℕ, ◌*◌, ◌<◌, ◌≤◌, true, false, T, ℤ, pos, ◌-ℤ◌, ◌*ℤ◌, nat_abs, ◌≤ℤ◌, sym, ◌∙◌, le_trans, to_z-of_z, w64, Fits, SFits, rules}
 use lib.Signed.{non_neg}
 use Rattle.ints.specs.Bridge.{abs, abs_is, za, sub#, above#}
@@ -9,8 +8,10 @@ use Rattle.share.specs.Running.{part}
 use Rattle.share.specs.Answer.{bad_amount, bad_total, bad_sums, answers, refuses, sharing}
 use Rattle.share.specs.Limits.{TotalWithin, SumsWithin}
 use Rattle.share.proofs.Limits.{sums_within}
-use Rattle.share.proofs.part.Statement.{statement}
-use Rattle.share.proofs.part.Tie as tie
+use Rattle.share.proofs.part.Goals as goal
+use Rattle.share.proofs.part.Goals.{After-bad_sums, After-floor_of-lower, After-floor_of-upper, Else-bad_sums, Else-outside, Else-outside-2, Start}
+
+-- The refusals in their order; past them both floors are no larger than the amount, so their difference is a word.
 
 module _ (P b t W : ℤ) where
   amount_refused : bad_amount P ≡ true → sharing P b t W ≡ refuses 5 1
@@ -54,46 +55,46 @@ above_zero : {x : ℤ} → pos 1 ≤ℤ x → pos 0 ≤ℤ x
 above_zero {x} h = omega (za, above# h)
 
 -- ---- at the places of the code
-amount_fine : (c : tie.Else1) → bad_amount c.before.before.args.p ≡ false
-amount_fine c = simp (to_z-of_z, c.before.before.ranges.p) at (sym c.before.outside.ensures ∙ c.if1.false)
+amount_fine : (c : Else-outside) → bad_amount c.args.p ≡ false
+amount_fine c = simp (to_z-of_z, c.ranges.p) at (sym c.outside.ensures ∙ c.if-outside.false)
 
-total_fine : (c : tie.Else2) → bad_total c.before.before.before.before.args.w ≡ false
-total_fine c = simp (to_z-of_z, c.before.before.before.before.ranges.w) at (sym c.before.outside2.ensures ∙ c.if2.false)
+total_fine : (c : Else-outside-2) → bad_total c.args.w ≡ false
+total_fine c = simp (to_z-of_z, c.ranges.w) at (sym c.outside-2.ensures ∙ c.if-outside-2.false)
 
-sums_are : (c : tie.After-bad-sums) → let s = c.before.before.before.before.before in
-    c.bad-sums.result ≡ bad_sums s.args.before s.args.through s.args.w
+sums_are : (c : After-bad_sums) → let s = c.before.before.before.before.before in
+    c.bad_sums.result ≡ bad_sums s.args.before s.args.through s.args.w
 sums_are c =
     let s = c.before.before.before.before.before in
-    simp (to_z-of_z, s.ranges.before, s.ranges.through, s.ranges.w) at c.bad-sums.ensures
+    simp (to_z-of_z, s.ranges.before, s.ranges.through, s.ranges.w) at c.bad_sums.ensures
 
-fine : (c : tie.Else3) → let s = c.before.before.before.before.before.before in Limits s.args.p s.args.before s.args.through s.args.w
+fine : (c : Else-bad_sums) → let s = c.before.before.before.before.before.before in Limits s.args.p s.args.before s.args.through s.args.w
 fine c =
     let s = c.before.before.before.before.before.before in
-    limits _ _ _ _ (amount_fine c.before.before.before.before) (total_fine c.before.before) (sym (sums_are c.before) ∙ c.if3.false)
+    limits _ _ _ _ (amount_fine c.before.before.before.before) (total_fine c.before.before) (sym (sums_are c.before) ∙ c.if-bad_sums.false)
 
-returns : tie.Need-returns
-returns c =
+pub returns-then-outside : goal.returns-then-outside
+returns-then-outside c =
     let s = c.before.before in
-    sym (amount_refused _ _ _ _ (simp (to_z-of_z, s.ranges.p) at (sym c.before.outside.ensures ∙ c.if1.true)))
+    sym (amount_refused _ _ _ _ (simp (to_z-of_z, s.ranges.p) at (sym c.outside.ensures ∙ c.if-outside.true)))
 
-returns-2 : tie.Need-returns-2
-returns-2 c =
+pub returns-then-outside-2 : goal.returns-then-outside-2
+returns-then-outside-2 c =
     let s = c.before.before.before.before in
-    sym (total_refused _ _ _ _ (amount_fine c.before.before) (simp (to_z-of_z, s.ranges.w) at (sym c.before.outside2.ensures ∙ c.if2.true)))
+    sym (total_refused _ _ _ _ (amount_fine c.before.before) (simp (to_z-of_z, s.ranges.w) at (sym c.outside-2.ensures ∙ c.if-outside-2.true)))
 
-returns-3 : tie.Need-returns-3
-returns-3 c =
-    sym (sums_refused _ _ _ _ (amount_fine c.before.before.before.before) (total_fine c.before.before) (sym (sums_are c.before) ∙ c.if3.true))
+pub returns-then-bad_sums : goal.returns-then-bad_sums
+returns-then-bad_sums c =
+    sym (sums_refused _ _ _ _ (amount_fine c.before.before.before.before) (total_fine c.before.before) (sym (sums_are c.before) ∙ c.if-bad_sums.true))
 
-cast-floor-of : tie.Need-overflow-cast-floor-of
-cast-floor-of c =
-    let f = c.before.before.before.before.before.before.ranges in
+pub overflow_cast-through : goal.overflow_cast-through
+overflow_cast-through c =
+    let f = c.ranges in
     let l = fine c in
     simp (to_z-of_z, f.through) (cast _ (≤_trans l.sums.low l.sums.between) f.through)
 
-cast-floor-of-2 : tie.Need-overflow-cast-floor-of-2
-cast-floor-of-2 c =
-    let f = c.before.before.before.before.before.before.ranges in
+pub overflow_cast-w : goal.overflow_cast-w
+overflow_cast-w c =
+    let f = c.ranges in
     let l = fine c in
     simp (to_z-of_z, f.w) (cast _ (above_zero l.total.above) f.w)
 
@@ -102,47 +103,47 @@ asked : (P : ℤ) {t W : ℤ} → abs P ≤ 100000000000000000 → pos 0 ≤ℤ 
     × (0 < nat_abs W)
 asked P {t} {W} h k j z = (h, omega (za, abs_is t, abs_is W), omega (za, abs_is W))
 
-floor-of-requires : tie.Need-floor-of-requires
-floor-of-requires c κs =
+pub floor_of-upper-requires : goal.floor_of-upper-requires
+floor_of-upper-requires c =
     let s = c.before.before.before.before.before.before in
     let f = s.ranges in
     let l = fine c in
     simp (to_z-of_z, f.p, f.through, f.w) (asked s.args.p l.amount (≤_trans l.sums.low l.sums.between) l.sums.high l.total.above)
 
-cast-floor-of-3 : tie.Need-overflow-cast-floor-of-3
-cast-floor-of-3 c =
-    let f = c.before.before.before.before.before.before.before.ranges in
+pub overflow_cast-before : goal.overflow_cast-before
+overflow_cast-before c =
+    let f = c.ranges in
     let l = fine c.before in
     simp (to_z-of_z, f.before) (cast _ l.sums.low f.before)
 
-cast-floor-of-4 : tie.Need-overflow-cast-floor-of-4
-cast-floor-of-4 c =
-    let f = c.before.before.before.before.before.before.before.ranges in
+pub overflow_cast-w-2 : goal.overflow_cast-w-2
+overflow_cast-w-2 c =
+    let f = c.ranges in
     let l = fine c.before in
     simp (to_z-of_z, f.w) (cast _ (above_zero l.total.above) f.w)
 
-floor-of-requires-2 : tie.Need-floor-of-requires-2
-floor-of-requires-2 c κs =
+pub floor_of-lower-requires : goal.floor_of-lower-requires
+floor_of-lower-requires c =
     let s = c.before.before.before.before.before.before.before in
     let f = s.ranges in
     let l = fine c.before in
     simp (to_z-of_z, f.p, f.before, f.w) (asked s.args.p l.amount l.sums.low (≤_trans l.sums.between l.sums.high) l.total.above)
 
 -- what the two calls answered
-upper_is : (c : tie.After-floor-of) → let s = c.before.before.before.before.before.before.before in
-    c.floor-of.result ≡ floor (s.args.p *ℤ s.args.through) s.args.w
+upper_is : (c : After-floor_of-upper) → let s = c.before.before.before.before.before.before.before in
+    c.floor_of-upper.result ≡ floor (s.args.p *ℤ s.args.through) s.args.w
 upper_is c =
     let s = c.before.before.before.before.before.before.before in
     let l = fine c.before in
     let t = ≤_trans l.sums.low l.sums.between in
-    simp (to_z-of_z, s.ranges.p, s.ranges.through, s.ranges.w, size _ t, size _ (above_zero l.total.above)) at c.floor-of.ensures
+    simp (to_z-of_z, s.ranges.p, s.ranges.through, s.ranges.w, size _ t, size _ (above_zero l.total.above)) at c.floor_of-upper.ensures
 
-lower_is : (c : tie.After-floor-of2) → let s = c.before.before.before.before.before.before.before.before in
-    c.floor-of2.result ≡ floor (s.args.p *ℤ s.args.before) s.args.w
+lower_is : (c : After-floor_of-lower) → let s = c.before.before.before.before.before.before.before.before in
+    c.floor_of-lower.result ≡ floor (s.args.p *ℤ s.args.before) s.args.w
 lower_is c =
     let s = c.before.before.before.before.before.before.before.before in
     let l = fine c.before.before in
-    simp (to_z-of_z, s.ranges.p, s.ranges.before, s.ranges.w, size _ l.sums.low, size _ (above_zero l.total.above)) at c.floor-of2.ensures
+    simp (to_z-of_z, s.ranges.p, s.ranges.before, s.ranges.w, size _ l.sums.low, size _ (above_zero l.total.above)) at c.floor_of-lower.ensures
 
 -- a floor share is a word, and so is the difference of two
 module _ (P : ℤ) {t W : ℤ} (h : abs P ≤ 100000000000000000) (k : pos 0 ≤ℤ t) (j : t ≤ℤ W) (z : pos 1 ≤ℤ W) where
@@ -157,8 +158,8 @@ module _ (P : ℤ) {t W : ℤ} (h : abs P ≤ 100000000000000000) (k : pos 0 ≤
 sub_fits : (x y : ℤ) → abs x ≤ 100000000000000000 → abs y ≤ 100000000000000000 → SFits w64 (x -ℤ y)
 sub_fits x y h k = omega (za, sub# x y)
 
-module _ (c : tie.After-floor-of2) where
-  abbrev s : tie.Start
+module _ (c : After-floor_of-lower) where
+  abbrev s : Start
   s = c.before.before.before.before.before.before.before.before
 
   l : Limits s.args.p s.args.before s.args.through s.args.w
@@ -179,32 +180,13 @@ module _ (c : tie.After-floor-of2) where
   difference : SFits w64 (floor (s.args.p *ℤ s.args.through) s.args.w -ℤ floor (s.args.p *ℤ s.args.before) s.args.w)
   difference = sub_fits (floor (s.args.p *ℤ s.args.through) s.args.w) (floor (s.args.p *ℤ s.args.before) s.args.w) upper_small lower_small
 
-sub-t8 : tie.Need-overflow-sub-t8
-sub-t8 c = simp (upper_is c.before, lower_is c, to_z-of_z, upper_fits c, lower_fits c) (difference c)
+pub overflow_sub-result : goal.overflow_sub-result
+overflow_sub-result c = simp (upper_is c.before, lower_is c, to_z-of_z, upper_fits c, lower_fits c) (difference c)
 
-returns-4 : tie.Need-returns-4
+pub returns : goal.returns
 unfolding part
-returns-4 c =
+returns c =
     let b = c.before.before.before in
     simp (upper_is c.before, lower_is c, to_z-of_z, upper_fits c, lower_fits c, difference c)
     (sym
-    (not_refused _ _ _ _ (amount_fine b.before.before.before) (total_fine b.before) (sym (sums_are b) ∙ c.before.before.if3.false)))
-
-pub part_spec : {M : Type 1} → statement M
-part_spec =
-    tie.close
-    (tie.spec
-    (λ c. search rules) (λ c κs. search rules)
-    returns
-    (λ c κs. search rules)
-    returns-2
-    (λ c κs. search rules)
-    returns-3
-    cast-floor-of
-    cast-floor-of-2
-    floor-of-requires
-    cast-floor-of-3
-    cast-floor-of-4
-    floor-of-requires-2
-    sub-t8
-    returns-4)
+    (not_refused _ _ _ _ (amount_fine b.before.before.before) (total_fine b.before) (sym (sums_are b) ∙ c.if-bad_sums.false)))

@@ -1,4 +1,3 @@
--- The quotient q and the remainder m are of the size; below 0 the floor is −q and nothing is left, or −q − 1 and w − m is left.
 use Rattle.std.proofs.Common.{◌≡◌, ℕ, ◌+◌, ◌-◌, ◌*◌, ◌<◌, ◌≤◌, ℤ, pos, ◌-ℤ◌, ◌*ℤ◌, ap, ◌∙◌, le_trans, mod-lt, pos_of_ne-zero, mul-le-mul_left, div-add-mod', le_of_mul-le-mul_right, arith, to_z-of_z, w64, SFits, to_z}
 use mir.Facts.{to_z_pos}
 use Rattle.ints.specs.Bridge.{up, dn, abs, za, sub#, mul#, one#}
@@ -6,8 +5,10 @@ use Rattle.ints.specs.Rest.{Split, split_out}
 use Rattle.ints.specs.Words.{back#}
 use Rattle.wide.specs.declared.Divided.{Divided}
 use Rattle.wide.specs.Exact.{divided}
-use Rattle.share.proofs.signed.Statement.{statement}
-use Rattle.share.proofs.signed.Tie as tie
+use Rattle.share.proofs.signed.Goals as goal
+use Rattle.share.proofs.signed.Goals.{Else-p-lt0, Start, Then-p-lt0}
+
+-- The quotient q and the remainder m are of the size; below 0 the floor is −q and nothing is left, or −q − 1 and w − m is left.
 
 -- ---- the three answers, in plain numbers
 above : (p : ℤ) (t w q m : ℕ) → dn p ≡ 0 → q * w + m ≡ up p * t → m < w → Split (p *ℤ pos t) w (pos q) m
@@ -52,17 +53,17 @@ word : (q : ℕ) → q ≤ 100000000000000000 → to_z w64 q ≡ pos q
 word q h = to_z_pos w64 {n = q} (omega arith)
 
 -- ---- at the places of the code
-known : (c : tie.Start) → Parts (abs c.args.p) c.args.t c.args.w c.args.d
+known : (c : Start) → Parts (abs c.args.p) c.args.t c.args.w c.args.d
 known c = parts _ _ _ c.args.d c.requires.1 c.requires.2 c.requires.3
 
-quot_small : (c : tie.Start) → c.args.d.quot ≤ 100000000000000000
+quot_small : (c : Start) → c.args.d.quot ≤ 100000000000000000
 quot_small c = le_trans (known c).quot_le c.requires.0
 
-below_zero : (c : tie.Then1) → up c.before.before.args.p ≡ 0
-below_zero c = omega (za, back# c.before.before.ranges.p, one# c.before.before.args.p)
+below_zero : (c : Then-p-lt0) → up c.args.p ≡ 0
+below_zero c = omega (za, back# c.ranges.p, one# c.args.p)
 
-not_below : (c : tie.Else1) → dn c.before.before.args.p ≡ 0
-not_below c = omega (za, back# c.before.before.ranges.p)
+not_below : (c : Else-p-lt0) → dn c.args.p ≡ 0
+not_below c = omega (za, back# c.ranges.p)
 
 -- the product of the size is that of its one part
 low_part : (p : ℤ) (t n : ℕ) → up p ≡ 0 → n ≡ abs p * t → n ≡ dn p * t
@@ -71,48 +72,44 @@ low_part p t n z e = omega (arith, ap (λ (k : ℕ). k * t) z)
 high_part : (p : ℤ) (t n : ℕ) → dn p ≡ 0 → n ≡ abs p * t → n ≡ up p * t
 high_part p t n z e = omega (arith, ap (λ (k : ℕ). k * t) z)
 
-cast-q : tie.Need-overflow-cast-q
-cast-q c = omega (za, quot_small c.before)
+pub overflow_cast-q : goal.overflow_cast-q
+overflow_cast-q c = omega (za, quot_small c.before)
 
-sub-t9 : tie.Need-overflow-sub-t9
-sub-t9 c = let l = quot_small c.before.before.before in simp (word _ l) (minus _ l)
+pub overflow_sub-result : goal.overflow_sub-result
+overflow_sub-result c = let l = quot_small c.before.before.before in simp (word _ l) (minus _ l)
 
-returns : tie.Need-returns
-returns c =
+pub returns-then-m-eq0 : goal.returns-then-m-eq0
+returns-then-m-eq0 c =
     let s = c.before.before.before in
     let q = s.args.d.quot in
     let l = quot_small s in
     let z = below_zero c.before in
     simp (word q l, to_z-of_z, minus q l)
-    (whole s.args.p s.args.t s.args.w q z s.requires.2 (exact _ _ _ _ (low_part s.args.p s.args.t _ z (known s).sum) c.if2.true))
+    (whole s.args.p s.args.t s.args.w q z s.requires.2 (exact _ _ _ _ (low_part s.args.p s.args.t _ z (known s).sum) c.if-m-eq0.true))
 
-sub-t10 : tie.Need-overflow-sub-t10
-sub-t10 c = let l = quot_small c.before.before.before in simp (word _ l) (minus _ l)
+pub overflow_sub-result-then-p-lt0 : goal.overflow_sub-result-then-p-lt0
+overflow_sub-result-then-p-lt0 c = let l = quot_small c.before.before.before in simp (word _ l) (minus _ l)
 
-sub-t11 : tie.Need-overflow-sub-t11
-sub-t11 c = let l = quot_small c.before.before.before in simp (word _ l, to_z-of_z, minus _ l) (minus_one _ l)
+pub overflow_sub-result-then-p-lt0-2 : goal.overflow_sub-result-then-p-lt0-2
+overflow_sub-result-then-p-lt0-2 c = let l = quot_small c.before.before.before in simp (word _ l, to_z-of_z, minus _ l) (minus_one _ l)
 
-sub-t12 : tie.Need-overflow-sub-t12
-sub-t12 c = omega (arith, (known c.before.before.before).small)
+pub overflow_sub-result-then-p-lt0-3 : goal.overflow_sub-result-then-p-lt0-3
+overflow_sub-result-then-p-lt0-3 c = omega (arith, (known c.before.before.before).small)
 
-returns-2 : tie.Need-returns-2
-returns-2 c =
+pub returns-then-p-lt0 : goal.returns-then-p-lt0
+returns-then-p-lt0 c =
     let s = c.before.before.before in
     let q = s.args.d.quot in
     let l = quot_small s in
     let z = below_zero c.before in
     simp (word q l, to_z-of_z, minus q l, minus_one q l)
     (broken s.args.p s.args.t s.args.w q s.args.d.rem z (low_part s.args.p s.args.t _ z (known s).sum) (known s).small
-    (pos_of_ne-zero c.if2.false))
+    (pos_of_ne-zero c.if-m-eq0.false))
 
-returns-3 : tie.Need-returns-3
-returns-3 c =
+pub returns : goal.returns
+returns c =
     let s = c.before.before in
     let q = s.args.d.quot in
     let z = not_below c in
     simp (word q (quot_small s)) (above s.args.p s.args.t s.args.w q s.args.d.rem z (high_part s.args.p s.args.t _ z (known s).sum)
     (known s).small)
-
-pub signed_spec : {M : Type 1} → statement M
-signed_spec =
-    tie.close (tie.spec cast-q sub-t9 returns sub-t10 sub-t11 sub-t12 returns-2 returns-3)

@@ -1,5 +1,3 @@
--- The loop's turn in plain numbers: the next weight sum lies between 0 and W, so its floor is no larger than the amount, and the
--- difference of the two floors is the next part.
 use Rattle.std.proofs.Common.{◌≡◌, ℕ, ◌+◌, ◌-◌, ◌<◌, ◌≤◌, T, List, length, get_or, take, set, ℤ, pos, ◌+ℤ◌, ◌-ℤ◌, ◌*ℤ◌, nat_abs, ◌≤ℤ◌, ◌<ℤ◌, sym, refl, ap, ◌∙◌, ap₂, arith, to_z-of_z, w64, Fits, SFits, to_z, rules}
 use lib.Signed.{non_neg}
 use Rattle.ints.specs.Bridge.{abs, abs_is, za, above#}
@@ -11,15 +9,12 @@ use Rattle.share.specs.Running.{part, running_share}
 use Rattle.share.specs.Filling.{Fillable}
 use Rattle.share.specs.Laws.{length_share, part_at}
 use Rattle.share.specs.OnePart.{floor_none, part_small}
-use Rattle.share.proofs.fill.Statement.{statement}
-use Rattle.share.proofs.fill.Tie as tie
+use Rattle.share.proofs.fill.Goals as goal
+use Rattle.share.proofs.fill.Invariants.{Turn}
+use Rattle.share.proofs.fill.Goals.{After-floor_of-upper, After-through-1, Start}
 
--- after i weights: their sum, its floor, and the parts so far
-record Turn (P W through lower : ℤ) (ws old parts : List ℤ) (i : ℕ) : Type 0 where
-  here : i ≤ length ws
-  sum : through ≡ sum_ℤ (take i ws)
-  floor_is : lower ≡ floor (P *ℤ sum_ℤ (take i ws)) W
-  done : parts ≡ filled (running_share P ws) old i
+-- The loop's turn in plain numbers: the next weight sum lies between 0 and W, so its floor is no larger than the amount, and the
+-- difference of the two floors is the next part.
 
 module _ {P W : ℤ} {ws old : List ℤ} (f : Fillable P W ws old) where
   above_zero : pos 0 <ℤ W
@@ -88,80 +83,65 @@ module _ {P W : ℤ} {ws old : List ℤ} (f : Fillable P W ws old) where
         done = filled_more (running_share P ws) old same i (pos 0) (q -ℤ lower) t.done (omega (arith, f.long)) value;
       }
 
-abbrev invariant-loop : tie.invariant-loop
-invariant-loop p total weights parts₀ n w through₀ lower₀ i₀ parts through lower i = Turn (to_z w64 p) (to_z w64 total) (to_z w64 through)
-    (to_z w64 lower) weights parts₀ parts i
-
-abbrev decreases-loop : tie.decreases-loop
-decreases-loop p total weights parts₀ n w through₀ lower₀ i₀ parts through lower i = n - i
-
-asks : (c : tie.Start invariant-loop decreases-loop) → Fillable (back c.args.p) (back c.args.total) c.args.weights.now c.args.parts.now
+asks : (c : Start) → Fillable (back c.args.p) (back c.args.total) c.args.weights.now c.args.parts.now
 asks c = rw (to_z-of_z c.ranges.p, to_z-of_z c.ranges.total) c.requires
 
-cast-w : tie.Need-overflow-cast-w invariant-loop decreases-loop
-cast-w c = simp (to_z-of_z, c.ranges.total) (cast c.args.total c.requires)
+pub overflow_cast-w : goal.overflow_cast-w
+overflow_cast-w c = simp (to_z-of_z, c.ranges.total) (cast c.args.total c.requires)
   where
     cast : {P : ℤ} {ws old : List ℤ} (W : ℤ) → Fillable P W ws old → T (non_neg W) × Fits w64 (nat_abs W)
     cast W f = omega (za, above# f.some, f.most)
 
-weight_fits : (c : tie.After-through invariant-loop decreases-loop) → SFits w64 (get_or c.before.before.before.args.weights.now c.before.before.loop.i (pos 0))
+weight_fits : (c : After-through-1) → SFits w64 (get_or c.args.weights.now c.loop-i.i (pos 0))
 weight_fits c = search rules
 
-module _ (c : tie.After-through invariant-loop decreases-loop) where
-  abbrev s : tie.Start invariant-loop decreases-loop
+module _ (c : After-through-1) where
+  abbrev s : Start
   s = c.before.before.before
 
-  sum_fits : SFits w64 (to_z w64 c.before.before.loop.through +ℤ get_or s.args.weights.now c.before.before.loop.i (pos 0))
-  sum_fits = next_fits (asks s) c.before.before.loop.invariant c.before.loop-test.true
+  sum_fits : SFits w64 (to_z w64 c.loop-i.through-bits +ℤ get_or s.args.weights.now c.loop-i.i (pos 0))
+  sum_fits = next_fits (asks s) c.loop-i.invariant c.loop-i-test.true
 
-cast-floor-of : tie.Need-overflow-cast-floor-of invariant-loop decreases-loop
-cast-floor-of c = simp (to_z-of_z, weight_fits c, sum_fits c) (next_cast (asks (s c)) c.before.before.loop.invariant c.before.loop-test.true)
+pub overflow_cast-through : goal.overflow_cast-through
+overflow_cast-through c = simp (to_z-of_z, weight_fits c, sum_fits c) (next_cast (asks (s c)) c.loop-i.invariant c.loop-i-test.true)
 
-floor-of-requires : tie.Need-floor-of-requires invariant-loop decreases-loop
-floor-of-requires c κs = rw (to_z-of_z (weight_fits c), to_z-of_z (sum_fits c)) (asked (asks (s c)) c.before.before.loop.invariant c.before.loop-test.true)
+pub floor_of-upper-requires : goal.floor_of-upper-requires
+floor_of-upper-requires c = rw (to_z-of_z (weight_fits c), to_z-of_z (sum_fits c)) (asked (asks (s c)) c.loop-i.invariant c.loop-i-test.true)
 
-result_is : (c : tie.After-floor-of invariant-loop decreases-loop) → let a = (s c.before).args in
-    c.floor-of.result ≡ floor (back a.p *ℤ sum_ℤ (take (c.before.before.before.loop.i + 1) a.weights.now)) (back a.total)
+result_is : (c : After-floor_of-upper) → let a = (s c.before).args in
+    c.floor_of-upper.result ≡ floor (back a.p *ℤ sum_ℤ (take (c.loop-i.i + 1) a.weights.now)) (back a.total)
 result_is c =
-    upper_is (asks (s c.before)) c.before.before.before.loop.invariant c.before.before.loop-test.true
-    (rw (to_z-of_z (weight_fits c.before), to_z-of_z (sum_fits c.before)) at c.floor-of.ensures)
+    upper_is (asks (s c.before)) c.loop-i.invariant c.loop-i-test.true
+    (rw (to_z-of_z (weight_fits c.before), to_z-of_z (sum_fits c.before)) at c.floor_of-upper.ensures)
 
-result_fits : (c : tie.After-floor-of invariant-loop decreases-loop) → SFits w64 c.floor-of.result
+result_fits : (c : After-floor_of-upper) → SFits w64 c.floor_of-upper.result
 result_fits c = search rules
 
-part_fits : (c : tie.After-floor-of invariant-loop decreases-loop) → SFits w64 (c.floor-of.result -ℤ to_z w64 c.before.before.before.loop.lower)
-part_fits c = value_fits (asks (s c.before)) c.before.before.before.loop.invariant c.before.before.loop-test.true (result_is c)
+part_fits : (c : After-floor_of-upper) → SFits w64 (c.floor_of-upper.result -ℤ to_z w64 c.loop-i.lower-bits)
+part_fits c = value_fits (asks (s c.before)) c.loop-i.invariant c.loop-i-test.true (result_is c)
 
-slice-set-from-parts : tie.Need-slice-set-from-parts invariant-loop decreases-loop
-slice-set-from-parts c = omega (arith, written (asks (s c.before)) c.before.before.before.loop.invariant, (asks (s c.before)).long)
+pub bounds-parts-i : goal.bounds-parts-i
+bounds-parts-i c = omega (arith, written (asks (s c.before)) c.loop-i.invariant, (asks (s c.before)).long)
 
-loop-again : tie.Need-loop-preserved invariant-loop decreases-loop
-loop-again c =
+pub loop-i-preserved : goal.loop-i-preserved
+loop-i-preserved c =
     rw (to_z-of_z (weight_fits c.before), to_z-of_z (sum_fits c.before), to_z-of_z (result_fits c), to_z-of_z (part_fits c))
-    (turn (asks (s c.before)) c.before.before.before.loop.invariant c.before.before.loop-test.true (result_is c))
+    (turn (asks (s c.before)) c.loop-i.invariant c.loop-i-test.true (result_is c))
 
-returns : tie.Need-returns invariant-loop decreases-loop
+pub returns : goal.returns
 returns c =
     let s = c.before.before in
-    let t = c.before.loop.invariant in
-    rw (to_z-of_z s.ranges.p) at (t.done ∙ filled_all _ _ (same (asks s)) c.before.loop.i (omega (arith, t.here, (asks s).long)))
+    let t = c.loop-i.invariant in
+    rw (to_z-of_z s.ranges.p) at (t.done ∙ filled_all _ _ (same (asks s)) c.loop-i.i (omega (arith, t.here, (asks s).long)))
 
-pub fill_spec : {M : Type 1} → statement M
-fill_spec =
-    tie.close
-    (tie.spec
-    invariant-loop
-    decreases-loop
-    cast-w
-    (λ c. start (asks c))
-    (λ c. omega arith) (λ c. omega arith)
-    (λ c. simp (to_z-of_z, weight_fits c) (sum_fits c))
-    cast-floor-of
-    floor-of-requires
-    (λ c. rw (to_z-of_z (result_fits c)) (part_fits c))
-    (λ c. omega arith)
-    slice-set-from-parts
-    (λ c. omega arith) (λ c. omega arith)
-    loop-again
-    (λ c. written (asks c.before.before) c.before.loop.invariant)
-    returns)
+pub loop-i-init : goal.loop-i-init
+loop-i-init c = start (asks c)
+
+pub overflow_add-through : goal.overflow_add-through
+overflow_add-through c = simp (to_z-of_z, weight_fits c) (sum_fits c)
+
+pub overflow_sub-parts : goal.overflow_sub-parts
+overflow_sub-parts c = rw (to_z-of_z (result_fits c)) (part_fits c)
+
+pub shape_of-parts : goal.shape_of-parts
+shape_of-parts c = written (asks c.before.before) c.loop-i.invariant
