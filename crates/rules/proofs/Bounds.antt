@@ -7,7 +7,7 @@ use mathlib.Core.Logic.{◌≢◌}
 use mathlib.Core.List.{List, [], ◌∷◌, map}
 use lib.Dec.{T, ltb}
 use lib.IntN.{ℤ, pos, ◌*ℤ◌}
-use lib.ListN.{length, get_or, take}
+use lib.ListN.{length, get_or}
 use lib.Seq.{length-take-le}
 use lib.Signed.{◌<ℤ◌}
 use Rattle.ints.specs.Bridge.{za, add#}

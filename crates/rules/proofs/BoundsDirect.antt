@@ -1,7 +1,6 @@
 -- The bounds of the direct charges of a month whose lines are in their ranges, and of their sum.
 use Prim.Native.Nat.{ℕ, ◌<◌}
 use native.Mathlib.Omega.{arith}
-use mathlib.Core.Path.{◌≡◌}
 use mathlib.Core.List.{[]}
 use lib.IntN.{pos}
 use lib.ListN.{length, get_or}

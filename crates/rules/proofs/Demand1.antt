@@ -10,7 +10,7 @@ use lib.Seq.{take_at, drop_at, length-take-le}
 use Rattle.rules.specs.declared.Answer.{Answer}
 use Rattle.rules.specs.declared.Answer.TheVariants.{Accepted, Refused}
 use Rattle.rules.specs.declared.Outcome.{Outcome}
-use Rattle.rules.specs.Verdict.{Verdict, accepted, refused}
+use Rattle.rules.specs.Verdict.{Verdict, accepted}
 use Rattle.rules.specs.Charges.{VDs, new_credits}
 use Rattle.rules.specs.Credits.{VCs}
 use Rattle.rules.specs.Refusals.{Lengths, cells_needed, short_slices, refusal, opening_refusal}

@@ -1,10 +1,10 @@
 -- Direct charges in the rows and columns of a month's table, and the cells that a month bills from those of its shared table.
-use Prim.Native.Nat.{ℕ, suc, ◌+◌, ◌*◌, ◌≤◌, ◌<◌}
+use Prim.Native.Nat.{ℕ, suc, ◌+◌, ◌*◌, ◌<◌}
 use native.Mathlib.Omega.{arith}
 use native.Mathlib.Nat.{mul-le-mul_right}
 use mathlib.Core.Path.{◌≡◌, refl, sym, ap, ap₂, ◌∙◌, subst}
-use mathlib.Core.Bool.{Bool, true, false, cond}
-use mathlib.Core.List.{List, [], ◌∷◌, ◌++◌}
+use mathlib.Core.Bool.{Bool, true, false}
+use mathlib.Core.List.{List, [], ◌++◌}
 use lib.Dec.{ltb}
 use lib.IntN.{ℤ, pos, ◌+ℤ◌, +ℤ_idr, +ℤ_comm}
 use lib.ListN.{length, get_or, take, drop, length-append, length-drop, length-map, get_or-append}

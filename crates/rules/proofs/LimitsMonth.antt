@@ -1,6 +1,6 @@
 -- The limits of opening and closing agree with their refusals: of any arguments, the first limit that is broken is the one that the call
 -- is refused for, and a call that keeps all is accepted. Assumes nothing.
-use Prim.Native.Nat.{ℕ, ◌≤◌, ◌<◌}
+use Prim.Native.Nat.{ℕ, ◌<◌}
 use mathlib.Core.Path.{◌≡◌, sym, subst}
 use mathlib.Core.Logic.{◌↔◌}
 use mathlib.Core.Bool.{false, ◌&&◌}

@@ -1,9 +1,8 @@
 -- The totals of a month that breaks no limit: compensation totals the variable parcels, and credits total debits, of which there are some.
 use mathlib.Core.Path.{◌≡◌, ap, ◌∙◌}
 use mathlib.Core.Logic.{⊎_elim}
-use mathlib.Core.List.{List}
 use lib.ListN.{length}
-use lib.IntN.{ℤ, pos}
+use lib.IntN.{pos}
 use lib.Signed.{◌≤ℤ◌, ◌<ℤ◌}
 use Rattle.ints.specs.Bounds.{word_nonneg}
 use Rattle.ints.specs.Order.{le_or_lt, ≤_antisym}
@@ -12,7 +11,6 @@ use Rattle.rules.specs.Lines.{Lines}
 use Rattle.rules.specs.Charges.{pv_total, CPVs, VDs}
 use Rattle.rules.specs.Credits.{VCs}
 use Rattle.rules.specs.State.{State}
-use Rattle.rules.specs.Refusals.{Lengths}
 use Rattle.rules.proofs.Passed.{Passed}
 use Rattle.rules.proofs.Sides.{sum_zeros}
 use Rattle.rules.proofs.Totals.{CPV_total, CPV_zero, VC_total}

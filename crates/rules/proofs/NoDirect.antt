@@ -10,7 +10,6 @@ use lib.Signed.{◌<ℤ◌}
 use Rattle.ints.specs.Bridge.{abs, za, sub#}
 use Rattle.ints.specs.Sums.{sum_ℤ}
 use Rattle.rules.specs.declared.Ledger.{Ledger}
-use Rattle.rules.specs.Verdict.{ByVerdict}
 use Rattle.rules.specs.Lines.{Lines}
 use Rattle.rules.specs.State.{State}
 use Rattle.rules.specs.Charges.{VMEs, CPVs, VDs}

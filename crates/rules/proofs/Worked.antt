@@ -3,7 +3,7 @@
 -- handed in again and refused.
 use Prim.Native.Nat.{ℕ, zero, suc, ◌<◌}
 use mathlib.Core.Path.{◌≡◌, refl, subst, subst₂}
-use mathlib.Core.List.{List, [], ◌∷◌, ◌++◌, map}
+use mathlib.Core.List.{List, [], ◌∷◌, ◌++◌}
 use native.Mathlib.Omega.{arith}
 use lib.IntN.{ℤ, pos, negsuc, ◌*ℤ◌}
 use lib.ListN.{length, get_or, replicate}
@@ -21,7 +21,7 @@ use Rattle.rules.specs.July.{july_line, july_agents, july_points, lines, points,
 use Rattle.rules.specs.Charges.{half_up, or_zero, use_charge, allowance, excess, overrun, of_user, EUSTs}
 use Rattle.rules.specs.Charges.{overrun_sums, VMEs, pv_total, CPVs, ns, VDs, new_credits}
 use Rattle.rules.specs.Credits.{VMPA, VMST, own_credit, own_credits_from, SMSEFrom, VMANTsFrom, agent_VCs_from, VCsFrom, VCs}
-use Rattle.rules.specs.Table.{Cell, rounded_down, cell_at, Table}
+use Rattle.rules.specs.Table.{rounded_down, cell_at, Table}
 use Rattle.rules.specs.Direct.{MonthTable}
 use Rattle.rules.specs.Refusals.{bad_counts, short_slices, bad_month, count_tests, state_tests, lines_before_points}
 use Rattle.rules.specs.Refusals.{line_tests, sum_tests, refusal, opening_refusal}
