@@ -32,10 +32,17 @@ floor_out {x} {w} {q} f = record {
   high = omega (za, mul# (q +ℤ pos 1) (pos w), ap (λ (t : ℕ). t * w) (add# q (pos 1)).sum);
 }
 
+-- each case of `floor` is one. The laws below go by these two, so that each law that a wrong case breaks refuses it by itself
+pub floor_pos : (a w : ℕ) → 0 < w → IsFloor (pos a) w (pos (a / w))
+floor_pos a w h = floor_out {q = pos (a / w)} (omega (arith, div-add-mod' a w, mod-lt a h))
+
+pub floor_neg : (a w : ℕ) → 0 < w → IsFloor (negsuc a) w (negsuc (a / w))
+floor_neg a w h = floor_out {q = negsuc (a / w)} (omega (arith, div-add-mod' a w, mod-lt a h))
+
 pub floor_is : (x : ℤ) (w : ℕ) → 0 < w → IsFloor x w (floor x (pos w))
 unfolding floor
-floor_is (pos a) w h = floor_out {q = pos (a / w)} (omega (arith, div-add-mod' a w, mod-lt a h))
-floor_is (negsuc a) w h = floor_out {q = negsuc (a / w)} (omega (arith, div-add-mod' a w, mod-lt a h))
+floor_is (pos a) w h = floor_pos a w h
+floor_is (negsuc a) w h = floor_neg a w h
 
 pub floor_by_zero : (a : ℕ) → (floor (pos a) (pos 0) ≡ pos 0) × (floor (negsuc a) (pos 0) ≡ negsuc 0)
 unfolding floor
@@ -57,7 +64,9 @@ pub floor_unique : {x : ℤ} {w : ℕ} {q r : ℤ} → IsFloor x w q → IsFloor
 floor_unique {x} f g = ≤_antisym (floor_mono f g (≤_refl x)) (floor_mono g f (≤_refl x))
 
 pub floor_eq : {x : ℤ} {w : ℕ} {q : ℤ} → 0 < w → IsFloor x w q → q ≡ floor x (pos w)
-floor_eq {x} {w} h f = floor_unique f (floor_is x w h)
+unfolding floor
+floor_eq {x = pos a} {w = w} h f = floor_unique f (floor_pos a w h)
+floor_eq {x = negsuc a} {w = w} h f = floor_unique f (floor_neg a w h)
 
 -- ---- sums
 pub floor_add_low : {x y : ℤ} {w : ℕ} {q r s : ℤ} → IsFloor x w q → IsFloor y w r → IsFloor (x +ℤ y) w s → (q +ℤ r) ≤ℤ s
@@ -118,6 +127,14 @@ share_small p t w {q} h k f = ⊎_elim below above (le_or_lt p (pos 0))
 
 -- the same of the floor itself: t out of w of p, rounded down, is no larger than p
 pub floor_share : (p t w : ℤ) → pos 0 ≤ℤ t → t ≤ℤ w → pos 0 <ℤ w → abs (floor (p *ℤ t) w) ≤ abs p
-floor_share p (pos t) (pos w) h k l = let z : 0 < w = omega za in share_small p t w (omega za) z (floor_is (p *ℤ pos t) w z)
+unfolding floor
+floor_share p (pos t) (pos w) h k l = go (p *ℤ pos t) refl
+  where
+    z : 0 < w
+    z = omega za
+
+    go : (x : ℤ) → p *ℤ pos t ≡ x → abs (floor x (pos w)) ≤ abs p
+    go (pos a) e = share_small p t w {q = pos (a / w)} (omega za) z (rw e (floor_pos a w z))
+    go (negsuc a) e = share_small p t w {q = negsuc (a / w)} (omega za) z (rw e (floor_neg a w z))
 floor_share p (negsuc t) w h k l = absurd (omega za)
 floor_share p (pos t) (negsuc w) h k l = absurd (omega za)

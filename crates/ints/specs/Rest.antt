@@ -1,8 +1,8 @@
 -- What a division rounded down leaves over: x is floor (x / w) times w, and the rest, which is below w.
-use Rattle.std.specs.Prelude.{◌≡◌, ℕ, ◌+◌, ◌*◌, ◌-◌, ◌<◌, ℤ, pos, ◌+ℤ◌, ◌-ℤ◌, ◌*ℤ◌}
+use Rattle.std.specs.Prelude.{◌≡◌, ℕ, ◌+◌, ◌*◌, ◌<◌, ℤ, pos, negsuc, ◌+ℤ◌, ◌-ℤ◌, ◌*ℤ◌}
 use Rattle.std.proofs.Common.{ap, ◌∙◌, arith}
 use Rattle.ints.specs.Bridge.{up, dn, za, add#, sub#, mul#, one#, eq_in}
-use Rattle.ints.specs.Floor.{IsFloor, floor, floor_in, floor_out, floor_is, floor_eq}
+use Rattle.ints.specs.Floor.{IsFloor, floor, floor_in, floor_out, floor_pos, floor_neg, floor_unique}
 
 -- x − floor (x / w) · w
 pub rest : ℤ → ℕ → ℕ
@@ -27,18 +27,26 @@ floor_split {x} {w} {q} f =
 
 -- the floor and the rest are such numbers
 pub rest_split : (x : ℤ) (w : ℕ) → 0 < w → Split x w (floor x (pos w)) (rest x w)
-unfolding rest
-rest_split x w h = floor_split (floor_is x w h)
+unfolding rest floor
+rest_split (pos a) w h = floor_split (floor_pos a w h)
+rest_split (negsuc a) w h = floor_split (floor_neg a w h)
 
 -- and there are no others
 pub quot_is : {x : ℤ} {w : ℕ} {q : ℤ} {r : ℕ} → Split x w q r → q ≡ floor x (pos w)
-quot_is s = floor_eq (omega (arith, s.less)) (split_floor s)
+unfolding floor
+quot_is {x = pos a} {w = w} s = floor_unique (split_floor s) (floor_pos a w (omega (arith, s.less)))
+quot_is {x = negsuc a} {w = w} s = floor_unique (split_floor s) (floor_neg a w (omega (arith, s.less)))
+
+only_rest : {x : ℤ} {w : ℕ} {p q : ℤ} {r : ℕ} → IsFloor x w p → Split x w q r → r ≡ up (x -ℤ p *ℤ pos w)
+only_rest {x} {w} {p} {q} {r} f s =
+    let t = floor_split f in
+    let e : x ≡ p *ℤ pos w +ℤ pos r = s.sum ∙ ap (λ (z : ℤ). z *ℤ pos w +ℤ pos r) (floor_unique (split_floor s) f) in
+    omega (za, eq_in e, eq_in t.sum, add# (p *ℤ pos w) (pos r), add# (p *ℤ pos w) (pos (up (x -ℤ p *ℤ pos w))))
 
 pub rest_is : {x : ℤ} {w : ℕ} {q : ℤ} {r : ℕ} → Split x w q r → r ≡ rest x w
-rest_is {x} {w} {q} {r} s =
-    let t = rest_split x w (omega (arith, s.less)) in
-    let e : x ≡ floor x (pos w) *ℤ pos w +ℤ pos r = s.sum ∙ ap (λ (z : ℤ). z *ℤ pos w +ℤ pos r) (quot_is s) in
-    omega (za, eq_in e, eq_in t.sum, add# (floor x (pos w) *ℤ pos w) (pos r), add# (floor x (pos w) *ℤ pos w) (pos (rest x w)))
+unfolding rest floor
+rest_is {x = pos a} {w = w} s = only_rest (floor_pos a w (omega (arith, s.less))) s
+rest_is {x = negsuc a} {w = w} s = only_rest (floor_neg a w (omega (arith, s.less))) s
 
 -- in parts, as `omega` finds it
 pub split_out : {x : ℤ} {w : ℕ} {q : ℤ} {r : ℕ} → up q * w + r + dn x ≡ up x + dn q * w → r < w → Split x w q r

@@ -1,5 +1,5 @@
 -- The test on either side of the limits.
-use Rattle.std.proofs.Common.{rules, ◌≡◌, sym, ap, Bool, ◌||◌}
+use Rattle.std.proofs.Common.{sym, ap, Bool, ◌||◌}
 use Rattle.std.specs.Int.Signed.{lt_z}
 use mir.Facts.{to_z-of_z}
 use Rattle.ints.specs.Range.{outside}

@@ -1,6 +1,6 @@
-use Rattle.std.proofs.Common.{refl, rules, ◌≡◌, ℕ, ◌+◌, w64, SFits, to_z, get_or, pos, ◌+ℤ◌}
+use Rattle.std.proofs.Common.{refl, rules, w64, SFits, to_z, get_or, pos, ◌+ℤ◌}
 use mir.Facts.{to_z-of_z}
-use Rattle.ints.specs.Adding.{Added, added_none, added_more, added_fits, added_all}
+use Rattle.ints.specs.Adding.{added_none, added_more, added_fits, added_all}
 use Rattle.ints.proofs.total.Goals as goal
 use Rattle.ints.proofs.total.Goals.{After-sum-1}
 
