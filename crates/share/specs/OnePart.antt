@@ -94,12 +94,12 @@ gap_up {P} {q} {r} h k l = omega (za, sub# q r, one# (q -ℤ r))
 gap_dn : {P q r : ℤ} → r ≤ℤ pos 0 → q ≤ℤ r → P ≤ℤ q → abs (q -ℤ r) ≤ abs P
 gap_dn {P} {q} {r} h k l = omega (za, sub# q r, one# (q -ℤ r))
 
-inside : (P b t W : ℤ) → pos 0 ≤ℤ b → b ≤ℤ t → t ≤ℤ W → pos 0 <ℤ W → abs (part P b t W) ≤ abs P
+pub part_small : (P : ℤ) {b t W : ℤ} → pos 0 ≤ℤ b → b ≤ℤ t → t ≤ℤ W → pos 0 <ℤ W → abs (part P b t W) ≤ abs P
 unfolding part
-inside P (negsuc b) t W h k l z = absurd (omega za)
-inside P (pos b) (negsuc t) W h k l z = absurd (omega za)
-inside P (pos b) (pos t) (negsuc w) h k l z = absurd (omega za)
-inside P (pos b) (pos t) (pos w) h k l z = ⊎_elim below above (le_or_lt P (pos 0))
+part_small P {b = negsuc b} h k l z = absurd (omega za)
+part_small P {b = pos b} {t = negsuc t} h k l z = absurd (omega za)
+part_small P {b = pos b} {t = pos t} {W = negsuc w} h k l z = absurd (omega za)
+part_small P {b = pos b} {t = pos t} {W = pos w} h k l z = ⊎_elim below above (le_or_lt P (pos 0))
   where
     w_up : 0 < w
     w_up = omega za
@@ -123,6 +123,3 @@ inside P (pos b) (pos t) (pos w) h k l z = ⊎_elim below above (le_or_lt P (pos
         (share_up P b w b_in w_up (floor_is (P *ℤ pos b) w w_up) (<→≤ g)).0
         (floor_rises (pos w) z (times_up P (<→≤ g) k))
         (share_up P t w t_in w_up (floor_is (P *ℤ pos t) w w_up) (<→≤ g)).1
-
-pub part_small : (P : ℤ) {b t W : ℤ} → pos 0 ≤ℤ b → b ≤ℤ t → t ≤ℤ W → pos 0 <ℤ W → abs (part P b t W) ≤ abs P
-part_small P {b} {t} {W} h k l z = inside P b t W h k l z

@@ -1,14 +1,8 @@
-use Rattle.std.proofs.Common.{◌≡◌, ℕ, ◌+◌, ◌-◌, ◌<◌, ◌≤◌, T, List, length, get_or, take, set, ℤ, pos, ◌+ℤ◌, ◌-ℤ◌, ◌*ℤ◌, nat_abs, ◌≤ℤ◌, ◌<ℤ◌, sym, refl, ap, ◌∙◌, ap₂, arith, to_z-of_z, w64, Fits, SFits, to_z, rules}
-use lib.Signed.{non_neg}
-use Rattle.ints.specs.Bridge.{abs, abs_is, za, above#}
-use Rattle.ints.specs.Fill.{filled, length_filled, filled_more, filled_all}
+use Rattle.std.proofs.Common.{◌≡◌, ℕ, ◌-◌, ◌≤◌, List, length, take, ℤ, ◌*ℤ◌}
+use Rattle.ints.specs.Fill.{filled}
 use Rattle.ints.specs.Floor.{floor}
-use Rattle.ints.specs.Sums.{sum_ℤ, sum_start, sum_more, sum_take_nonneg, sum_take_rises, sum_take_le}
-use Rattle.ints.specs.Words.{back}
-use Rattle.share.specs.Running.{part, running_share}
-use Rattle.share.specs.Filling.{Fillable}
-use Rattle.share.specs.Laws.{length_share, part_at}
-use Rattle.share.specs.OnePart.{floor_none, part_small}
+use Rattle.ints.specs.Sums.{sum_ℤ}
+use Rattle.share.specs.Running.{running_share}
 use Rattle.share.proofs.fill.Given as goal
 
 -- after i weights: their sum, its floor, and the parts so far

@@ -1,4 +1,4 @@
-use Rattle.std.proofs.Common.{◌≡◌, ℕ, zero, suc, ◌+◌, ◌*◌, ◌^◌, ◌<◌, ◌≤◌, cond, eqb, ℤ, pos, ◌-ℤ◌, ◌*ℤ◌, ap, ◌∙◌, le_trans, mod-lt, mul-le-mul_left, div-add-mod', le_of_mul-le-mul_right, arith, to_z-of_z, w64, SFits, to_z, rules, ne_eqb}
+use Rattle.std.proofs.Common.{◌≡◌, ℕ, zero, suc, ◌+◌, ◌*◌, ◌<◌, ◌≤◌, cond, eqb, ℤ, pos, ◌-ℤ◌, ◌*ℤ◌, ap, ◌∙◌, le_trans, mod-lt, mul-le-mul_left, div-add-mod', le_of_mul-le-mul_right, arith, to_z-of_z, w64, SFits, to_z, ne_eqb}
 use mir.Facts.{to_z_pos}
 use Rattle.ints.specs.Bridge.{up, dn, abs, za, sub#, mul#, one#}
 use Rattle.ints.specs.Floor.{floor, floor_out, floor_eq}

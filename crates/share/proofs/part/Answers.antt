@@ -1,4 +1,4 @@
-use Rattle.std.proofs.Common.{◌≡◌, ℕ, ◌*◌, ◌<◌, ◌≤◌, true, false, T, ℤ, pos, ◌-ℤ◌, ◌*ℤ◌, nat_abs, ◌≤ℤ◌, sym, ◌∙◌, le_trans, to_z-of_z, w64, Fits, SFits, rules}
+use Rattle.std.proofs.Common.{◌≡◌, ℕ, ◌<◌, ◌≤◌, true, false, T, ℤ, pos, ◌-ℤ◌, ◌*ℤ◌, nat_abs, ◌≤ℤ◌, sym, ◌∙◌, le_trans, to_z-of_z, w64, Fits, SFits}
 use lib.Signed.{non_neg}
 use Rattle.ints.specs.Bridge.{abs, abs_is, za, sub#, above#}
 use Rattle.ints.specs.Order.{abs_le, ≤_trans}

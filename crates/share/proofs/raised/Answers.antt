@@ -1,4 +1,4 @@
-use Rattle.std.proofs.Common.{◌≡◌, rules, ne_eqb}
+use Rattle.std.proofs.Common.{ne_eqb}
 use Rattle.share.proofs.raised.Goals as goal
 
 -- The two cases of the remainder.

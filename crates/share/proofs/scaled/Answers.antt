@@ -1,6 +1,5 @@
-use Rattle.std.proofs.Common.{◌≡◌, ℕ, ◌*◌, ◌/◌, ◌^◌, ◌<◌, ◌≤◌, sym, ◌∙◌, lt_of_le_of_lt, div-lt_iff_lt-mul, mul-le-mul_left, mul-lt-mul_of_pos_right, arith, rules}
+use Rattle.std.proofs.Common.{◌≡◌, ℕ, ◌*◌, ◌/◌, ◌^◌, ◌<◌, ◌≤◌, sym, ◌∙◌, lt_of_le_of_lt, div-lt_iff_lt-mul, mul-le-mul_left, mul-lt-mul_of_pos_right, arith}
 use Rattle.wide.specs.declared.Divided.{Divided}
-use Rattle.wide.specs.declared.Ratio.{Ratio}
 use Rattle.wide.specs.declared.Ratio.TheVariants.{Exact, Over, ByZero}
 use Rattle.wide.specs.Exact.{divided}
 use Rattle.wide.proofs.Laws.{ratio_exact}

@@ -1,4 +1,4 @@
-use Rattle.std.proofs.Common.{◌≡◌, ℕ, ◌+◌, ◌-◌, ◌*◌, ◌<◌, ◌≤◌, ℤ, pos, ◌-ℤ◌, ◌*ℤ◌, ap, ◌∙◌, le_trans, mod-lt, pos_of_ne-zero, mul-le-mul_left, div-add-mod', le_of_mul-le-mul_right, arith, to_z-of_z, w64, SFits, to_z}
+use Rattle.std.proofs.Common.{◌≡◌, ℕ, ◌+◌, ◌-◌, ◌*◌, ◌<◌, ◌≤◌, ℤ, pos, ◌-ℤ◌, ◌*ℤ◌, ap, le_trans, mod-lt, pos_of_ne-zero, mul-le-mul_left, div-add-mod', le_of_mul-le-mul_right, arith, to_z-of_z, w64, SFits, to_z}
 use mir.Facts.{to_z_pos}
 use Rattle.ints.specs.Bridge.{up, dn, abs, za, sub#, mul#, one#}
 use Rattle.ints.specs.Rest.{Split, split_out}

@@ -1,4 +1,4 @@
-use Rattle.std.proofs.Common.{◌≡◌, ℕ, ◌+◌, ◌*◌, ◌/◌, ◌%◌, ◌<◌, ◌≤◌, sym, refl, ap, ◌∙◌, mod-lt, div-add-mod', arith, rules}
+use Rattle.std.proofs.Common.{◌≡◌, ℕ, ◌+◌, ◌*◌, ◌<◌, sym, refl, ap, ◌∙◌, mod-lt, div-add-mod', arith}
 use Rattle.wide.specs.declared.Words.{Words}
 use Rattle.wide.specs.Exact.{divided}
 use Rattle.share.specs.Rate.{one_word, share_le, divided_is}

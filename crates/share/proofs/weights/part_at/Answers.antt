@@ -1,4 +1,4 @@
-use Rattle.std.proofs.Common.{◌≡◌, ℕ, ◌+◌, ◌-◌, ◌*◌, ◌<◌, ◌≤◌, refl, ap, arith, w64, Fits, rules}
+use Rattle.std.proofs.Common.{◌≡◌, ℕ, ◌+◌, ◌-◌, ◌*◌, ◌<◌, ◌≤◌, refl, ap, arith, w64, Fits}
 use Rattle.wide.specs.declared.Words.{Words}
 use Rattle.share.specs.Rate.{Near, near, high_le, wrapped, divided_is}
 use Rattle.share.proofs.weights.part_at.Goals as goal

@@ -1,5 +1,4 @@
-use Rattle.std.proofs.Common.{◌≡◌, ℕ, ◌+◌, ◌*◌, ◌/◌, ◌%◌, ◌^◌, ◌<◌, ◌≤◌, sym, refl, ap, ◌∙◌, mod-lt, div-add-mod', arith, rules}
-use Rattle.wide.specs.declared.Divided.{Divided}
+use Rattle.std.proofs.Common.{◌≡◌, ◌+◌, ◌*◌, ◌%◌, ◌<◌, sym, refl, mod-lt, div-add-mod', arith}
 use Rattle.share.proofs.weights.rate_of.Goals as goal
 
 -- Quotient, remainder, and the remainder's fraction.
