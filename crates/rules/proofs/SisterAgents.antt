@@ -7,7 +7,8 @@ use lib.IntN.{ℤ, pos, ◌+ℤ◌, ◌-ℤ◌}
 use lib.ListN.{length, get_or, length-map}
 use Rattle.ints.specs.Ring.{all4, diff, add_swap}
 use Rattle.ints.specs.Sums.{sum_ℤ}
-use Rattle.share.specs.Joined.{joined, left_out, sum_joined, share_joined, share_left_out}
+use Rattle.share.specs.Joined.{joined, left_out}
+use Rattle.share.proofs.Joined.{sum_joined, share_joined, share_left_out}
 use Rattle.rules.specs.Lists.{side_by_side, length_side_by_side}
 use Rattle.rules.specs.Lines.{Agent, Lines}
 use Rattle.rules.specs.State.{State}

@@ -11,7 +11,8 @@ use Rattle.ints.specs.Bridge.{za, sub#}
 use Rattle.ints.specs.Range.{eq_z, eq_z_same, eq_z_not}
 use Rattle.ints.specs.Ring.{add_swap}
 use Rattle.share.specs.Running.{running_share}
-use Rattle.share.specs.Joined.{joined, left_out, share_joined, share_left_out}
+use Rattle.share.specs.Joined.{joined, left_out}
+use Rattle.share.proofs.Joined.{share_joined, share_left_out}
 use Rattle.rules.specs.declared.Point.{Point}
 use Rattle.rules.specs.Lists.{each_from}
 use Rattle.rules.specs.Lines.{User, Lines}
