@@ -135,7 +135,7 @@ module _ {M : Type 1} {𝓤 : Ura M} {𝓛 : Logic 𝓤} {K : Type 0} where
       enter t C Λ f vs Kf $ allocated t f.locals _ (λ bs. params_stored t f.locals bs vs wt Γ
       (record { prf = via 𝓤 _ (all_out 𝓛 (env f.locals bs) (bare ∷ fulls vs) Γ) (k bs).prf }))
 
--- the fact about the k_th of such values
+-- the fact about the k-th of such values
 abbrev pub TypedAt : ℕ → List Local → List Val → Type 0
 TypedAt k ls [] = Unit {0}
 TypedAt k [] (v ∷ vs) = Unit {0}

@@ -36,7 +36,7 @@ use types.Kit.{Item, Post, Goal, runs, lands, Step, step, Sq, Go, !, move, use1,
 use types.Run.{Reads, Writes, Walks, Opds, load, from, stop, hop, fld, addr, init, assigns, look, no_more, and_then}
 use Rattle.records.proofs.Walking.{locals, stars, seps, items, Lent, lends, splits, returned}
 
--- ---- places: k in a row from n on; and all of m in a row from n on but the j_th
+-- ---- places: k in a row from n on; and all of m in a row from n on but the j-th
 abbrev pub row_of : ℕ → ℕ → List ℕ
 row_of n zero = []
 row_of n (suc k) = n ∷ row_of (suc n) k
@@ -44,7 +44,7 @@ row_of n (suc k) = n ∷ row_of (suc n) k
 abbrev pub but : ℕ → ℕ → ℕ → List ℕ
 but n m j = row_of n j ++ row_of (n + suc j) (m - suc j)
 
--- lifetimes and shares but the j_th, and the j_th share
+-- lifetimes and shares but the j-th, and the j-th share
 abbrev pub lfts_but : (n j : ℕ) → Lfts (suc n) → Lfts n
 lfts_but zero j κs = tt
 lfts_but (suc n) zero κs = κs.1
