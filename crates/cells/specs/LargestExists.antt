@@ -23,7 +23,8 @@ narrow : (vc vd cells : List ℤ) → Table vc vd cells → Narrow (length vc * 
 unfolding floor_at
 narrow vc vd cells T = record { long = T.size; near = λ p h. near p (spot (length vc) (length vd) p h) }
   where
-    near : (p : ℕ) → Spot (length vc) (length vd) p → (slice_index_or cells p (pos 0) ≡ floor_at vc vd p) ⊎ (slice_index_or cells p (pos 0) ≡ floor_at vc vd p +ℤ pos 1)
+    near : (p : ℕ) → Spot (length vc) (length vd) p → (slice_index_or cells p (pos 0) ≡ floor_at vc vd p)
+        ⊎ (slice_index_or cells p (pos 0) ≡ floor_at vc vd p +ℤ pos 1)
     near p s =
         subst (λ (q : ℕ). (slice_index_or cells q (pos 0) ≡ floor_at vc vd p) ⊎ (slice_index_or cells q (pos 0) ≡ floor_at vc vd p +ℤ pos 1)) s.place
         (two (T.cell (p / length vd) (p % length vd) s.row s.column))
