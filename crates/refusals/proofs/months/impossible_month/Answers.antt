@@ -11,8 +11,8 @@ use Rattle.ints.specs.Bridge.{za}
 use Rattle.ints.specs.Range.{outside, outside_false}
 use Rattle.ints.specs.Words.{quot_small, rem_small, rem_floor}
 use Rattle.rules.specs.Calendar.{month_of_year, impossible_month}
-use Rattle.refusals.proofs.months.impossible_month.Statement.{statement}
-use Rattle.refusals.proofs.months.impossible_month.Tie as tie
+use Rattle.refusals.proofs.months.impossible_month.Goals as goal
+use Rattle.refusals.proofs.months.impossible_month.Goals.{Else-outside}
 
 mm : (m : ℤ) → pos 200001 ≤ℤ m → rem_z m (pos 100) ≡ month_of_year m
 unfolding month_of_year
@@ -24,23 +24,19 @@ quot_fits m e = let w = outside_false _ _ m e in omega (za, quot_small m (pos 10
 rem_fits : (m : ℤ) → outside (pos 200001) (pos 209912) m ≡ false → SFits w64 (rem_z m (pos 100))
 rem_fits m e = let w = outside_false _ _ m e in omega (za, rem_small m (pos 100))
 
-in_range : (c : tie.Else1) → outside (pos 200001) (pos 209912) c.before.before.args.m ≡ false
-in_range c = simp (to_z-of_z, c.before.before.ranges.m) at (sym c.before.outside.ensures ∙ c.if1.false)
+in_range : (c : Else-outside) → outside (pos 200001) (pos 209912) c.args.m ≡ false
+in_range c = simp (to_z-of_z, c.ranges.m) at (sym c.outside.ensures ∙ c.if-outside.false)
 
-returns : tie.Need-returns
+pub returns-then-outside : goal.returns-then-outside
 unfolding impossible_month
-returns c = rw (simp (to_z-of_z, c.before.before.ranges.m) at (sym c.before.outside.ensures ∙ c.if1.true))
+returns-then-outside c = rw (simp (to_z-of_z, c.ranges.m) at (sym c.outside.ensures ∙ c.if-outside.true))
 
-rem-outside : tie.Need-nonzero-rem-outside
-rem-outside c = let s = c.before.before in simp (to_z-of_z, s.ranges.m) (search rules, quot_fits s.args.m (in_range c))
+pub nonzero_rem-m : goal.nonzero_rem-m
+nonzero_rem-m c = simp (to_z-of_z, c.ranges.m) (search rules, quot_fits c.args.m (in_range c))
 
-returns-2 : tie.Need-returns-2
+pub returns : goal.returns
 unfolding impossible_month
-returns-2 c =
-    let s = c.before.before.before in
-    let m = s.args.m in
+returns c =
+    let m = c.args.m in
     let e = in_range c.before in
-    rw e (rw (mm m (outside_false _ _ m e).above) at (simp (to_z-of_z, s.ranges.m, rem_fits m e) at c.outside2.ensures))
-
-pub impossible_month_spec : {M : Type 1} → statement M
-impossible_month_spec = tie.close (tie.spec (λ c κs. search rules) returns rem-outside (λ c κs. search rules) returns-2)
+    rw e (rw (mm m (outside_false _ _ m e).above) at (simp (to_z-of_z, c.ranges.m, rem_fits m e) at c.outside-2.ensures))
