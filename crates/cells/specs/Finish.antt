@@ -12,7 +12,7 @@ use Rattle.ints.specs.Rest.{Split}
 use Rattle.ints.specs.Sums as ℤs
 use Rattle.ints.specs.Sums.{sum_ℤ, Σ<, Small, sum_end, Σ_list, Σ_add, Σ_pos}
 use Rattle.rules.specs.Table.{Cell, rounded_down, rounded_up, cell_at, Table}
-use Rattle.cells.specs.Marks.{at, row, col, kind_then}
+use Rattle.cells.specs.Marks.{at, row, col, below, kind_then}
 use Rattle.cells.specs.Kept.{Kept, still}
 use Rattle.cells.specs.Place.{Wanted, Placed}
 use Rattle.cells.specs.Exact.{feasible, row_none, col_none}
@@ -62,17 +62,20 @@ module _ {vc vd : List ℤ} {debits debits' : List ℕ} {w : ℕ} (F : Fillable 
   pub written_sum : sum_ℤ vd ≡ pos w
   written_sum = sum_is vd F.debits ∙ ap pos (sym N.total)
 
-  pub given : Given vc debits' w
-  given = record {
-    balanced = record {
-      some = omega (za, F.some, eq_in written_sum);
-      users = rw written_long (Σ_ext (length vd) (debit_of debits') (debit_at vd) written ∙ sym N.total);
-      payees = Σ_list vc (length vc) (omega arith) ∙ sum_end vc (length vc) refl ∙ F.equal ∙ written_sum;
-    };
-    most = omega (za, F.most, eq_in written_sum);
-    values = F.credits;
-    tall = F.payees;
-  }
+pub given : {vc vd : List ℤ} {debits debits' : List ℕ} {w : ℕ} → Fillable vc vd → length debits ≡ length vd → Naturals vd debits debits' (length vd) w
+    → Given vc debits' w
+given {vc} {vd} {debits} {debits'} {w} F e N =
+    let s = written_sum F e N in
+    record {
+      balanced = record {
+        some = omega (za, F.some, eq_in s);
+        users = rw (written_long F e N) (Σ_ext (length vd) (debit_of debits') (debit_at vd) (written F e N) ∙ sym N.total);
+        payees = Σ_list vc (length vc) (omega arith) ∙ sum_end vc (length vc) refl ∙ F.equal ∙ s;
+      };
+      most = omega (za, F.most, eq_in s);
+      values = F.credits;
+      tall = F.payees;
+    }
 
 -- ---- marks are added to floors
 abbrev pub Posted : List ℤ → List ℕ → List ℤ → ℕ → Type 0
@@ -181,6 +184,23 @@ module _ {vc vd : List ℤ} {debits : List ℕ} {w : ℕ} (B : Balanced vc debit
         (slice_index wants j) (λ i h. put i j h k') (col_marks F P j k')
         (F.left.cols j k'));
   }
+
+-- all of `lay`
+pub laid : {vc vd : List ℤ} {debits debits' : List ℕ} {w : ℕ} → Fillable vc vd → length debits ≡ length vd → Naturals vd debits debits' (length vd) w
+    → {cells : List ℤ} {marks lacks wants marks' lacks' wants' ys : List ℕ} → Floored vc debits' w cells marks lacks wants
+    → length cells ≡ length vc * length vd → {m n : ℕ} → m ≡ length vc → n ≡ length vd → Kept m n marks lacks wants marks' lacks' wants' → {m' n' : ℕ}
+    → m' ≡ length vc → n' ≡ length vd → Placed m' n' marks' lacks' wants' ys → (out : List ℤ) → Posted cells ys out (length cells) → Table vc vd out
+laid {vc} {vd} {debits} {debits'} {w} F e N {cells} {ys = ys} L l a b K c d P out Q =
+    let long : length debits' ≡ length vd = N.wrote.long ∙ e in
+    let K' : Kept (length vc) (length debits') _ _ _ _ _ _ = rw (a, b ∙ sym long) at K in
+    let P' : Placed (length vc) (length debits') _ _ _ ys = rw (c, d ∙ sym long) at P in
+    table (given F e N).balanced long
+    (λ j h. debit_is F.debits j h ∙ ap pos (sym (rw zero-add at (N.wrote.done j h))))
+    (sum_is vd F.debits ∙ ap pos (sym N.total))
+    L (placed_after K' P') out
+    (λ i j h k. (rw zero-add at (Q.done (i * length debits' + j) (subst (λ (t : ℕ). i * length debits' + j < t) (sym (l
+    ∙ ap (λ (t : ℕ). length vc * t) (sym long))) (below h k)))) ∙ ap (λ (t : ℤ). t +ℤ pos (slice_index ys (i * length debits' + j) - 1)) (L.cell i j h k))
+    (Q.long ∙ l ∙ ap (λ (t : ℕ). length vc * t) (sym long))
 
 -- ---- a part of a fresh array
 pub part_long : (k n : ℕ) → n ≤ k → length (take n (replicate {A = ℕ} k 0)) ≡ n

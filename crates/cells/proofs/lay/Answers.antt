@@ -1,7 +1,6 @@
--- Each call's promise is the next one's premise (specs/Finish.antt, specs/Order.antt).
+-- Each call's promise is the next one's premise (specs/Finish.antt).
 use Rattle.std.proofs.Common.{◌≡◌, ℕ, ◌*◌, length, sym, ap, ◌∙◌, arith}
-use Rattle.cells.specs.Finish.{unsigned, given, cells_small, wanted}
-use Rattle.cells.specs.Order.{laid}
+use Rattle.cells.specs.Finish.{unsigned, given, cells_small, wanted, laid}
 use Rattle.cells.proofs.lay.Goals as goal
 
 pub naturals-w-requires : goal.naturals-w-requires
