@@ -1,12 +1,6 @@
--- The cases a to j hold: by computation, but for d's three columns, which are all that the totals allow.
-use Prim.Native.Nat.{ℕ, ◌+◌}
-use mathlib.Core.Path.{◌≡◌, refl}
-use mathlib.Core.Logic.{◌⊎◌, inl, inr}
-use mathlib.Core.List.{[], ◌∷◌}
-use native.Mathlib.Omega.{arith}
+-- The cases a to j hold: by computation, but for d's three columns, which Columns.antt shows to be all that the totals allow.
+use mathlib.Core.Path.{refl}
 use lib.Dec.{lit<}
-use lib.IntN.{ℤ, pos, ◌+ℤ◌, ◌*ℤ◌}
-use Rattle.ints.specs.Bridge.{za, add#}
 use Rattle.ints.specs.Floor.{floor}
 use Rattle.ints.specs.Range.{outside}
 use Rattle.ints.specs.Sums.{sum_ℤ, Σ<}
@@ -21,13 +15,12 @@ use Rattle.rules.specs.Calendar.{month_of_year, impossible_month, cycle_month, s
 use Rattle.rules.specs.Lines.{kind_of, bad_agent, bad_user, bad_point, unfit_point}
 use Rattle.rules.specs.Charges.{half_up, or_zero, use_charge, allowance, excess, overrun, of_user, EUSTs, overrun_sums, VMEs, pv_total, CPVs, ns, VDs, new_credits}
 use Rattle.rules.specs.Credits.{VMPA, VMST, own_credit, own_credits_from, SMSEFrom, VMANTsFrom, agent_VCs_from, VCsFrom}
-use Rattle.rules.specs.Table.{Cell, rounded_down, rounded_up}
 use Rattle.rules.specs.Refusals.{bad_counts, short_slices, bad_month, count_tests, state_tests, lines_before_points, line_tests, sum_tests, refusal}
 use Rattle.rules.specs.Tally.{after, verdicts}
 use Rattle.rules.proofs.OneTable.{one_table}
-use Rattle.cases.specs.Inputs.{these}
 use Rattle.cases.specs.ByHand.{A, B, C, D, E, F, G, H, I, J, All, by_hand}
 use Rattle.cases.proofs.Tables.{table_of, whole_of}
+use Rattle.cases.proofs.Columns.{three}
 
 a : A
 unfolding reading scan_at scan read_blocks read_lines read_line read_value read_digits format more line in_value enter step refusal bad_counts short_slices bad_month
@@ -60,27 +53,6 @@ b = refl
 c : C
 unfolding running_share parts_from part floor sum_ℤ
 c = refl
-
-total : (x y z : ℤ) (k m n : ℕ) → x ≡ pos k → y ≡ pos m → z ≡ pos n → pos 0 +ℤ x +ℤ y +ℤ z ≡ pos 296 → k + m + n ≡ 296
-total x y z k m n p q r s = omega (za, add# (pos 0) x, add# (pos 0 +ℤ x) y, add# (pos 0 +ℤ x +ℤ y) z)
-
--- three cells of floors 94, 186 and 15 that total 296: just one of them is rounded up
-three :
-    (x y z : ℤ)
-    → Cell (pos 632 *ℤ pos 296) (pos 1970) x
-    → Cell (pos 1238 *ℤ pos 296) (pos 1970) y
-    → Cell (pos 100 *ℤ pos 296) (pos 1970) z
-    → pos 0 +ℤ x +ℤ y +ℤ z ≡ pos 296
-    → (x ∷ y ∷ z ∷ [] ≡ these (95 ∷ 186 ∷ 15 ∷ [])) ⊎ ((x ∷ y ∷ z ∷ [] ≡ these (94 ∷ 187 ∷ 15 ∷ [])) ⊎ (x ∷ y ∷ z ∷ [] ≡ these (94 ∷ 186 ∷ 16 ∷ [])))
-unfolding floor
-three x y z (rounded_up p _) (rounded_down q) (rounded_down r) s = inl (cc)
-three x y z (rounded_down p) (rounded_up q _) (rounded_down r) s = inr (inl (cc))
-three x y z (rounded_down p) (rounded_down q) (rounded_up r _) s = inr (inr (cc))
-three x y z (rounded_down p) (rounded_down q) (rounded_down r) s = absurd (omega (arith, total x y z 94 186 15 p q r s))
-three x y z (rounded_down p) (rounded_up q _) (rounded_up r _) s = absurd (omega (arith, total x y z 94 187 16 p q r s))
-three x y z (rounded_up p _) (rounded_down q) (rounded_up r _) s = absurd (omega (arith, total x y z 95 186 16 p q r s))
-three x y z (rounded_up p _) (rounded_up q _) (rounded_down r) s = absurd (omega (arith, total x y z 95 187 15 p q r s))
-three x y z (rounded_up p _) (rounded_up q _) (rounded_up r _) s = absurd (omega (arith, total x y z 95 187 16 p q r s))
 
 d : D
 unfolding floor sum_ℤ Σ<

@@ -1,4 +1,5 @@
 pub mod Tables
+pub mod Columns
 pub mod Checked
 pub mod Bands
 pub mod Skipped

@@ -68,15 +68,17 @@ lead_in : (b : ℕ) → is_lead b ≡ true → (49 ≤ b) × (b < 58)
 lead_in b e = let c = both (leb 49 b) (ltb b 58) e in (leb-true 49 b c.0, ltb-true b 58 c.1)
 
 module _ (b : ℕ) (t : List ℕ) where
-  -- the byte that ends a line, or the CR before it
+  -- the byte that ends a line, or the CR before it, after which an LF is still to come
   line_over : (g : List Item) → Tail (line_ends g b) t → Over g (b ∷ t)
-  line_over g h = by (eqb b lf) refl h
+  line_over g h = by _ (λ i. i) (eqb b lf) refl h
     where
-      by : (q : Bool) → eqb b lf ≡ q → Tail (cond q (at g) (cond (eqb b cr) (at (byte lf ∷ g)) stuck)) t → Over g (b ∷ t)
-      by true e a = record { eol = LF; next = t; after = a; is = ap (λ (x : ℕ). x ∷ t) (eqb-true b lf e) }
-      by false e a =
-          let c = passed (eqb b cr) (at (byte lf ∷ g)) t a in
-          let i = c.1 in
+      by :
+          (s : State) → (Tail s t → After (byte lf ∷ g) t)
+          → (q : Bool) → eqb b lf ≡ q → Tail (cond q (at g) (cond (eqb b cr) s stuck)) t → Over g (b ∷ t)
+      by s f true e a = record { eol = LF; next = t; after = a; is = ap (λ (x : ℕ). x ∷ t) (eqb-true b lf e) }
+      by s f false e a =
+          let c = passed (eqb b cr) s t a in
+          let i = f c.1 in
           record {
             eol = CRLF;
             next = spell g i.eols i.said;

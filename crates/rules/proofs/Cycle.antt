@@ -17,7 +17,7 @@ use Rattle.rules.specs.Ranges.{MonthAfter, Twelfths}
 use Rattle.rules.specs.Limits.{Month}
 use Rattle.rules.specs.TariffYear.{TariffYear, JulyBetween}
 use Rattle.rules.proofs.Fits.{Possible, possible}
-use Rattle.rules.proofs.Months.{year_is, mm_is, month_possible, before_in_year, mm_before}
+use Rattle.rules.proofs.Months.{mm_is, cycle_is, month_possible, before_in_year, mm_before}
 
 told : {a b : ℤ} → T (eq_z a b) → a ≡ b
 told {a} {b} t = eq_z_true a b (is_true (eq_z a b) t)
@@ -122,10 +122,6 @@ place m (pos y) (pos k) e w v false h =
 
 cycle_place : {m : ℤ} (t : Month m) (second : Bool) → lt_z t.mm (pos 7) ≡ second → cycle_month m ≡ cond second (t.mm +ℤ pos 6) (t.mm -ℤ pos 6)
 cycle_place {m} t second e = place m t.yyyy t.mm t.is t.year t.month second e
-
-cycle_is : {m : ℤ} (t : Month m) (second : Bool) → lt_z t.mm (pos 7) ≡ second → cycle_of m ≡ cond second (t.yyyy -ℤ pos 1) t.yyyy
-unfolding cycle_of
-cycle_is t second e = rw (mm_is t, year_is t, e)
 
 -- a half of a cycle, with cycle months from low to high: yyyymm is the cycle's year, the gap and the cycle month
 pub record Half (gap low high : ℕ) (m : ℤ) : Type 0 where

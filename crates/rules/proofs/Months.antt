@@ -1,14 +1,14 @@
--- Months that there are: a year and a month of it, the test for none, and the month before.
+-- Months that there are: a year and a month of it, its cycle, the test for none, and the month before.
 use mathlib.Core.Path.{◌≡◌, refl, sym, ap, ◌∙◌}
 use mathlib.Core.Logic.{◌≢◌, ◌↔◌}
 use mathlib.Core.Bool.{Bool, true, false, cond}
 use native.Mathlib.Omega.{arith}
 use lib.IntN.{ℤ, pos, ◌-ℤ◌, ◌*ℤ◌}
-use lib.Signed.{◌<ℤ◌}
+use lib.Signed.{lt_z, ◌<ℤ◌}
 use Rattle.ints.specs.Bridge.{za, add#, sub#, mul#, one#, ne_in}
 use Rattle.ints.specs.Floor.{floor, Floor#, floor_is, floor_in, floor_out, floor_eq}
 use Rattle.ints.specs.Range.{Within, eq_z, eq_z_true, eq_z_false}
-use Rattle.rules.specs.Calendar.{month_of_year, impossible_month, month_before}
+use Rattle.rules.specs.Calendar.{month_of_year, impossible_month, month_before, cycle_of}
 use Rattle.rules.specs.Limits.{Month}
 use Rattle.rules.specs.TariffYear.{LastBefore}
 use Rattle.rules.proofs.Fits.{possible, not_impossible}
@@ -29,6 +29,11 @@ mm_is {m} t =
     let r = add# (y *ℤ pos 100) t.mm in
     let a = t.is in
     ap (λ (x : ℤ). m -ℤ x *ℤ pos 100) (year_is t) ∙ (let d = sub# m (y *ℤ pos 100) in omega za)
+
+-- its cycle begins in July, that of a month before July in the year before
+pub cycle_is : {m : ℤ} (t : Month m) (second : Bool) → lt_z t.mm (pos 7) ≡ second → cycle_of m ≡ cond second (t.yyyy -ℤ pos 1) t.yyyy
+unfolding cycle_of
+cycle_is t second e = rw (mm_is t, year_is t, e)
 
 -- there are exactly those that the test lets pass
 pub month_possible : (m : ℤ) → Month m ↔ (impossible_month m ≡ false)
