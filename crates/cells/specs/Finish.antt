@@ -1,5 +1,6 @@
 -- What `fill` asks, and how marks added to floors make the table of paper 01.
-use Rattle.std.specs.Prelude.{◌≡◌, ℕ, zero, suc, ◌+◌, ◌-◌, ◌*◌, ◌<◌, ◌≤◌, min, List, length, get_or, take, replicate, ℤ, pos, ◌+ℤ◌, ◌*ℤ◌, ◌≤ℤ◌, FitsSigned, slice_index, slice_index_or, refl}
+use Rattle.std.specs.Prelude.{◌≡◌, ℕ, zero, suc, ◌+◌, ◌-◌, ◌*◌, ◌<◌, ◌≤◌, min, List, length, get_or, take, replicate, ℤ, pos, ◌+ℤ◌, ◌*ℤ◌, ◌≤ℤ◌, FitsSigned}
+use Rattle.std.specs.Prelude.{slice_index, slice_index_or, refl}
 use Rattle.std.proofs.Math.Path.{sym, ap, subst}
 use Rattle.std.proofs.Common.{ap₂, ◌∙◌, arith, zero-add, length-take}
 use Rattle.std.proofs.lemmas.List.{length-replicate}
@@ -11,7 +12,7 @@ use Rattle.ints.specs.Rest.{Split}
 use Rattle.ints.specs.Sums as ℤs
 use Rattle.ints.specs.Sums.{sum_ℤ, Σ<, Small, sum_end, Σ_list, Σ_add, Σ_pos}
 use Rattle.rules.specs.Table.{Cell, rounded_down, rounded_up, cell_at, Table}
-use Rattle.cells.specs.Marks.{at, row, col, kind_then}
+use Rattle.cells.specs.Marks.{at, row, col, below, kind_then}
 use Rattle.cells.specs.Kept.{Kept, still}
 use Rattle.cells.specs.Place.{Wanted, Placed}
 use Rattle.cells.specs.Exact.{feasible, row_none, col_none}
@@ -61,17 +62,20 @@ module _ {vc vd : List ℤ} {debits debits' : List ℕ} {w : ℕ} (F : Fillable 
   pub written_sum : sum_ℤ vd ≡ pos w
   written_sum = sum_is vd F.debits ∙ ap pos (sym N.total)
 
-  pub given : Given vc debits' w
-  given = record {
-    balanced = record {
-      some = omega (za, F.some, eq_in written_sum);
-      users = rw written_long (Σ_ext (length vd) (debit_of debits') (debit_at vd) written ∙ sym N.total);
-      payees = Σ_list vc (length vc) (omega arith) ∙ sum_end vc (length vc) refl ∙ F.equal ∙ written_sum;
-    };
-    most = omega (za, F.most, eq_in written_sum);
-    values = F.credits;
-    tall = F.payees;
-  }
+pub given : {vc vd : List ℤ} {debits debits' : List ℕ} {w : ℕ} → Fillable vc vd → length debits ≡ length vd → Naturals vd debits debits' (length vd) w
+    → Given vc debits' w
+given {vc} {vd} {debits} {debits'} {w} F e N =
+    let s = written_sum F e N in
+    record {
+      balanced = record {
+        some = omega (za, F.some, eq_in s);
+        users = rw (written_long F e N) (Σ_ext (length vd) (debit_of debits') (debit_at vd) (written F e N) ∙ sym N.total);
+        payees = Σ_list vc (length vc) (omega arith) ∙ sum_end vc (length vc) refl ∙ F.equal ∙ s;
+      };
+      most = omega (za, F.most, eq_in s);
+      values = F.credits;
+      tall = F.payees;
+    }
 
 -- ---- marks are added to floors
 abbrev pub Posted : List ℤ → List ℕ → List ℤ → ℕ → Type 0
@@ -92,7 +96,8 @@ post_fits {cells} {out} {marks} {i} A F h =
 pub cells_small : {vc : List ℤ} {debits : List ℕ} {w : ℕ} {cells : List ℤ} {marks lacks wants : List ℕ} → Given vc debits w
     → Floored vc debits w cells marks lacks wants → length cells ≡ length vc * length debits → Small 100000000000000000 cells
 cells_small {vc} {debits} {w} {cells} G F e = record {
-  small = λ p h. everywhere (length vc) (length debits) (λ p. abs (slice_index_or cells p (pos 0)) ≤ 100000000000000000) inside p (subst (λ (t : ℕ). p < t) e h);
+  small = λ p h. everywhere (length vc) (length debits) (λ p. abs (slice_index_or cells p (pos 0)) ≤ 100000000000000000) inside p
+      (subst (λ (t : ℕ). p < t) e h);
 }
   where
     inside : (i j : ℕ) → i < length vc → j < length debits → abs (cell_at (length debits) cells i j) ≤ 100000000000000000
@@ -174,10 +179,28 @@ module _ {vc vd : List ℤ} {debits : List ℕ} {w : ℕ} (B : Balanced vc debit
     column = λ j k.
         let k' : j < length debits = subst (λ (t : ℕ). j < t) (sym long) k in
         rw (debit j k, sym long)
-        (line_by (length vc) (λ i. cell_at (length debits) out i j) (λ i. quot_of vc debits w i j) (λ i. at (length debits) ys i j - 1) (pos (debit_of debits j))
+        (line_by (length vc) (λ i. cell_at (length debits) out i j) (λ i. quot_of vc debits w i j) (λ i. at (length debits) ys i j - 1)
+        (pos (debit_of debits j))
         (slice_index wants j) (λ i h. put i j h k') (col_marks F P j k')
         (F.left.cols j k'));
   }
+
+-- all of `lay`
+pub laid : {vc vd : List ℤ} {debits debits' : List ℕ} {w : ℕ} → Fillable vc vd → length debits ≡ length vd → Naturals vd debits debits' (length vd) w
+    → {cells : List ℤ} {marks lacks wants marks' lacks' wants' ys : List ℕ} → Floored vc debits' w cells marks lacks wants
+    → length cells ≡ length vc * length vd → {m n : ℕ} → m ≡ length vc → n ≡ length vd → Kept m n marks lacks wants marks' lacks' wants' → {m' n' : ℕ}
+    → m' ≡ length vc → n' ≡ length vd → Placed m' n' marks' lacks' wants' ys → (out : List ℤ) → Posted cells ys out (length cells) → Table vc vd out
+laid {vc} {vd} {debits} {debits'} {w} F e N {cells} {ys = ys} L l a b K c d P out Q =
+    let long : length debits' ≡ length vd = N.wrote.long ∙ e in
+    let K' : Kept (length vc) (length debits') _ _ _ _ _ _ = rw (a, b ∙ sym long) at K in
+    let P' : Placed (length vc) (length debits') _ _ _ ys = rw (c, d ∙ sym long) at P in
+    table (given F e N).balanced long
+    (λ j h. debit_is F.debits j h ∙ ap pos (sym (rw zero-add at (N.wrote.done j h))))
+    (sum_is vd F.debits ∙ ap pos (sym N.total))
+    L (placed_after K' P') out
+    (λ i j h k. (rw zero-add at (Q.done (i * length debits' + j) (subst (λ (t : ℕ). i * length debits' + j < t) (sym (l
+    ∙ ap (λ (t : ℕ). length vc * t) (sym long))) (below h k)))) ∙ ap (λ (t : ℤ). t +ℤ pos (slice_index ys (i * length debits' + j) - 1)) (L.cell i j h k))
+    (Q.long ∙ l ∙ ap (λ (t : ℕ). length vc * t) (sym long))
 
 -- ---- a part of a fresh array
 pub part_long : (k n : ℕ) → n ≤ k → length (take n (replicate {A = ℕ} k 0)) ≡ n

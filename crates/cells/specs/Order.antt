@@ -54,7 +54,8 @@ module _ {vc vd : List ℤ} {debits : List ℕ} {w : ℕ} (B : Balanced vc debit
     : Placed (length vc) (length debits) marks lacks wants ys) where
   -- ---- another table's marks
   module _ (other : List ℤ) (T : Table vc vd other) where
-    holds : (i j : ℕ) → i < length vc → j < length debits → Extra (cell_at (length debits) cells i j) (rest_of vc debits w i j) (cell_at (length debits) other i j)
+    holds : (i j : ℕ) → i < length vc → j < length debits → Extra (cell_at (length debits) cells i j) (rest_of vc debits w i j)
+        (cell_at (length debits) other i j)
     holds i j h k =
         let k' : j < length vd = subst (λ (t : ℕ). j < t) long k in
         let c : Cell (credit_of vc i *ℤ pos (debit_of debits j)) (pos w) (cell_at (length debits) other i j) =
@@ -120,7 +121,7 @@ module _ {vc vd : List ℤ} {debits : List ℕ} {w : ℕ} (B : Balanced vc debit
 placed_led : {m n : ℕ} {xs wr wc ys zs : List ℕ} → Placed m n xs wr wc ys → Led m n ys zs → Placed m n xs wr wc zs
 placed_led P D = record { rows = λ i h. D.rows i h ∙ P.rows i h; cols = λ j h. D.cols j h ∙ P.cols j h; kind = kind_then P.kind D.kind }
 
--- ---- all of `lay`
+-- ---- all of `lay`, of the largest table
 module _ {vc vd : List ℤ} {debits debits' : List ℕ} {w : ℕ} (A : Fillable vc vd) (e : length debits ≡ length vd) (N
     : Naturals vd debits debits' (length vd) w) {cells : List ℤ} {marks lacks wants marks' lacks' wants' ys : List ℕ} (F
     : Floored vc debits' w cells marks lacks wants) (l : length cells ≡ length vc * length vd) {m n : ℕ} (a : m ≡ length vc) (b : n ≡ length vd) (K
@@ -139,9 +140,6 @@ module _ {vc vd : List ℤ} {debits debits' : List ℕ} {w : ℕ} (A : Fillable 
   put zs out Q i j h k =
       (rw zero-add at (Q.done (i * length debits' + j) (subst (λ (t : ℕ). i * length debits' + j < t) (sym size) (below h k))))
       ∙ ap (λ (t : ℤ). t +ℤ pos (at (length debits') zs i j - 1)) (F.cell i j h k)
-
-  pub laid : (out : List ℤ) → Posted cells ys out (length cells) → Table vc vd out
-  laid out Q = table (given A e N).balanced long (written_debit A e N) (written_sum A e N) F placed out (put ys out Q) (Q.long ∙ size)
 
   pub laid_largest : {zs : List ℕ} {m'' n'' : ℕ} → m'' ≡ length vc → n'' ≡ length vd → Led m'' n'' ys zs → (out : List ℤ) → Posted cells zs out (length cells)
       → Largest (Table vc vd) out

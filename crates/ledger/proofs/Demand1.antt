@@ -4,8 +4,7 @@
 --
 -- What is assumed of a call is what a caller learns from the contract that the program is proved to meet, as for demand 3
 -- (proofs/Demand). Nothing else is.
-use mathlib.Core.List.{List, map}
-use lib.IntN.{ℤ}
+use mathlib.Core.List.{map}
 use Rattle.rules.specs.Lines.{point_of, month_lines}
 use Rattle.rules.specs.Demand.{Call}
 use Rattle.rules.specs.Demand1.{Demand1Opening, Demand1Closing}

@@ -46,6 +46,20 @@ pub record Found (g : Ledger) (held cells : List ℤ) (work : List ℕ) (line : 
     : Type 0 where
   pub judged : Judges g held (short_of g held cells work) (month_lines line agents users points) r
 
+pub found :
+    {g : Ledger} {held cells : List ℤ} {work : List ℕ} {line : MonthLine} {agents users : List (List ℤ)} {points : List Point} {count : ℕ} {s : Sums}
+    {first : Answer} {r : Judged}
+    → ScanFinds users count s points
+    → ((credits : List ℤ)
+    → verdict_of first
+    ≡ count_tests (state_of g credits) (short_slices (state_of g credits) (lengths_of held cells work)) (length users) (length agents) count)
+    → ((ps : List Point) (short : Verdict)
+    → Begun g held (month_lines line agents users ps) s first short
+    → Judges g held short (month_lines line agents users ps) r)
+    → Found g held cells work line agents users points r
+found {g} {held} {cells} {work} {line} {agents} {users} f told judges =
+    record { judged = judges _ _ (begun g held cells work line agents users f (told held)) }
+
 module _ {g : Ledger} {held cells : List ℤ} {work : List ℕ} {line : MonthLine} {agents users : List (List ℤ)} {points : List Point} {r : Judged} (f
     : Found g held cells work line agents users points r) where
   abbrev l : Lines

@@ -7,7 +7,7 @@ use mathlib.Core.List.{List, [], ◌∷◌, ◌++◌}
 use lib.IntN.{ℤ, pos}
 use lib.ListN.{length, drop, replicate}
 use contract.Lifetimes.{Lfts}
-use denote.Ref.{Bor}
+use denote.Ref.{Bor, MutBor}
 use Rattle.ints.specs.Bridge.{za}
 use Rattle.rules.specs.declared.Ledger.{Ledger}
 use Rattle.rules.specs.declared.MonthLine.{MonthLine}
@@ -73,9 +73,12 @@ Of credits (c ∷ cs) [] = ⊥
 Of credits (c ∷ cs) (m ∷ ms) =
     (c.args.1.0.now ≡ slice credits m.lent) × (picked m.lent c ≡ m) × Of (left_in credits (plain c).held_left) cs ms
 
--- a reference to these values, wherever it points
+-- a reference to these values, wherever it points: a `&`, and a `&mut`, which has a ghost name too
 abbrev lent : {X : Type 0} → X → Bor X
 lent x = record { ref_ptr = (0, 0); now = x }
+
+abbrev lent_mut : {X : Type 0} → X → MutBor X
+lent_mut x = record { ref_ptr = (0, 0); ghost_name = 0; now = x }
 
 module _ (κs : Lfts 6) where
   abbrev called :
@@ -85,7 +88,7 @@ module _ (κs : Lfts 6) where
   called g held m r held' cells' work' p =
       record {
         κs = κs;
-        args = (g, (lent held, (m.line, (lent m.agents, (lent m.users, (lent m.points, (lent m.cells, (lent m.work, tt))))))));
+        args = (g, (lent_mut held, (m.line, (lent m.agents, (lent m.users, (lent m.points, (lent_mut m.cells, (lent_mut m.work, tt))))))));
         result = r;
         last = (tt, (held', (tt, (tt, (tt, (tt, (cells', (work', tt))))))));
         learnt = p;
@@ -140,7 +143,7 @@ some κ κs users agents held months e =
       opened =
           record {
             κs = κ;
-            args = (users, (agents, (lent held, tt)));
+            args = (users, (agents, (lent_mut held, tt)));
             result = record { answer = Accepted; ledger = record { users = users; agents = agents; month = pos 0 } };
             last = (tt, (tt, (replicate users (pos 0) ++ drop users held, tt)));
             learnt = opens_accepted users agents held e;

@@ -1,4 +1,4 @@
-// Where each value stands in its line. specs/Lines reads a line by the same places (agent_of, user_of, pointOf).
+// Where each value stands in its line. specs/Lines reads a line by the same places (agent_of, user_of, point_of).
 
 // agent,pb,pv,afs,rfs,pa,ret
 pub const AGENT_NUMBER: usize = 0;

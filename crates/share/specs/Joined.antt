@@ -1,4 +1,4 @@
--- Sister lines (paper 02, Q_13): two neighbouring lines listed as one, and a line left out. proofs/Joined.antt proves what they receive.
+-- Sister lines (paper 02, Q-13): two neighbouring lines listed as one, and a line left out. proofs/Joined.antt proves what they receive.
 use Rattle.std.specs.Prelude.{ℕ, suc, List, ◌∷◌, ◌++◌, take, drop, ℤ, pos, ◌+ℤ◌, slice_index_or}
 
 -- the entries before k, the sum of entries k and k + 1, the entries after them; k is counted from 0

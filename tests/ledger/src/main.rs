@@ -13,25 +13,26 @@ mod orders;
 use call::Outcome;
 use lists::List;
 
-/// The program compiled without optimisation, with it, and with the compiler's assumptions checked.
+/// The program compiled by LLVM, by Rattle's own compiler, and with checks.
 const RUNS: usize = 3;
 
 fn main() {
     let args: Vec<String> = std::env::args().collect();
     match args.iter().map(String::as_str).collect::<Vec<_>>()[..] {
-        [_, "write", vectors, summary, ref programs @ ..] => write(vectors, summary, programs),
-        [_, "check", vectors, short, ref records @ ..] => check(vectors, short, records),
+        [_, "write", vectors, summary, ref parts @ ..] => write(vectors, summary, parts),
+        [_, "check", vectors, short, ref parts @ ..] => check(vectors, short, parts),
         [_, "bench-write", timed, once] => bench::write(timed, once),
         [_, "bench", ref runs @ ..] => bench::compare(runs),
         _ => panic!(
-            "write VECTORS SUMMARY PROGRAM.., check VECTORS SHORT RECORDS.., bench-write TIMED ONCE, bench TIMES.."
+            "write VECTORS SUMMARY PART.., check VECTORS SHORT PART.., bench-write TIMED ONCE, bench TIMES.."
         ),
     }
 }
 
-/// The program's input: where the records go, then the calls.
-fn script(to: u64, lists: &[List]) -> Vec<u8> {
-    let mut script = to.to_le_bytes().to_vec();
+/// The program's input: the path of the file to which the records go, if they go to one, then the calls.
+fn script(records: &str, lists: &[List]) -> Vec<u8> {
+    let mut script = (records.len() as u64).to_le_bytes().to_vec();
+    script.extend(records.bytes());
     lists.iter().flat_map(|list| &list.calls).for_each(|call| call.write(&mut script));
     script
 }
@@ -40,31 +41,31 @@ fn store(folder: &str, name: &str, bytes: impl AsRef<[u8]>) {
     std::fs::write(format!("{}/{}", folder, name), bytes).expect("the folder can be written to");
 }
 
-/// Writes a summary of the lists and, to one folder a part, the program's input and the rows that it has to write.
-fn write(vectors: &str, summary: &str, programs: &[&str]) {
+/// Writes a summary of the lists and, to one folder a part, the program's input and the rows that it has to write. Its records go there.
+fn write(vectors: &str, summary: &str, folders: &[&str]) {
     let parts = lists::parts(vectors);
-    assert_eq!(parts.len(), programs.len(), "a folder for each part");
+    assert_eq!(parts.len(), folders.len(), "a folder for each part");
     let mut text = format!("{:<18}{:>6}{:>6}", "list", "calls", "ok");
     (1..=10).for_each(|number| text += &format!("{:>6}", number));
     text += " digest of calls and rows\n";
     parts.iter().flatten().for_each(|list| text += &list.summary());
     std::fs::write(summary, text).expect("the summary can be written");
-    for (lists, folder) in parts.iter().zip(programs) {
-        store(folder, "stdin", script(3, lists));
+    for (lists, folder) in parts.iter().zip(folders) {
+        store(folder, "stdin", script(&format!("{}/records", folder), lists));
         let rows: String = lists.iter().flat_map(|list| &list.outcomes).map(Outcome::row).collect();
         store(folder, "stdout", rows);
     }
 }
 
 /// Checks the records of all parts, and writes input and records of the short lists as the interpreter has to write them.
-fn check(vectors: &str, short: &str, records: &[&str]) {
+fn check(vectors: &str, short: &str, folders: &[&str]) {
     let parts = lists::parts(vectors);
-    assert_eq!(parts.len(), records.len(), "the records of each part");
-    for (k, (lists, path)) in parts.iter().zip(records).enumerate() {
-        let records = std::fs::read(path).expect("the records are there");
+    assert_eq!(parts.len(), folders.len(), "a folder for each part");
+    for (k, (lists, folder)) in parts.iter().zip(folders).enumerate() {
+        let records = std::fs::read(format!("{}/records", folder)).expect("the records are there");
         let after_short = check_part(lists, &records);
         if k == 0 {
-            store(short, "stdin", script(1, &lists[..lists::SHORT]));
+            store(short, "stdin", script("", &lists[..lists::SHORT]));
             store(short, "stdout", &records[..after_short]);
         }
     }
