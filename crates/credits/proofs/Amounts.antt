@@ -12,7 +12,7 @@ use Rattle.ints.specs.Bounds.{Word, word, word_abs, word_wide, word_sub, Words, 
 use Rattle.ints.specs.Sums.{sum_ℤ, Small}
 use Rattle.ints.specs.Adding.{Summable}
 use Rattle.share.specs.Filling.{Fillable}
-use Rattle.share.specs.Laws.{parts_small}
+use Rattle.share.proofs.Laws.{parts_small}
 use Rattle.rules.specs.Most.{most_amount, most_balance, most_debits, most_own, most_parcels}
 use Rattle.rules.specs.Lines.{Agent}
 use Rattle.rules.specs.declared.MonthLine.{MonthLine}

@@ -4,7 +4,7 @@ use Rattle.std.proofs.lemmas.List.{length-map}
 use Rattle.ints.specs.Bounds.{word_abs}
 use Rattle.ints.specs.Sums.{sum_ℤ}
 use Rattle.ints.specs.Words.{back}
-use Rattle.share.specs.Laws.{length_share}
+use Rattle.share.proofs.Laws.{length_share}
 use Rattle.share.specs.Running.{running_share}
 use Rattle.rules.specs.declared.MonthLine.{MonthLine}
 use Rattle.rules.specs.Lines.{Agent}
