@@ -41,7 +41,7 @@ less = month 202408 3 (
     ∷ []
     )
 
--- overruns, each band 1 k_w beyond 110 and 105 percent: 302.4 and 92.4 cents, 302 + 92, and 395 together; 301.5 and 100.5
+-- overruns, each band 1 kW beyond 110 and 105 percent: 302.4 and 92.4 cents, 302 + 92, and 395 together; 301.5 and 100.5
 abbrev pub over : Fed
 over = month 202409 3 (
     (1 ∷ 1008 ∷ 308 ∷ 0 ∷ 0 ∷ 10 ∷ 10 ∷ 12 ∷ 12 ∷ [])

@@ -1,5 +1,5 @@
 -- A file saved on an office machine (paper 02, Q-3): its text comes back with CRs added before LFs, all of them or some, and every place
--- after one has moved. proofs/Saved_reads.antt proves that reading and the file check answer the same of both texts, but for that.
+-- after one has moved. proofs/SavedReads.antt proves that reading and the file check answer the same of both texts, but for that.
 -- Assumes nothing.
 use Rattle.std.specs.Prelude.{ℕ, zero, suc, ◌+◌, ◌≡◌, List, [], ◌∷◌, ℤ, pos, negsuc}
 use Rattle.format.specs.Bytes.{lf, cr}

@@ -62,7 +62,7 @@ corrected ret = pos 1 ∷ pos 2 ∷ ret ∷ pos 0 ∷ []
 abbrev charged : ℤ → Row
 charged ong = pos 1 ∷ pos 2 ∷ pos 0 ∷ ong ∷ []
 
--- its point of one cent: a thousandth of a real for each of 10 k_w
+-- its point of one cent: a thousandth of a real for each of 10 kW
 abbrev cent : Row
 cent = pos 1 ∷ pos 1 ∷ pos 0 ∷ pos 0 ∷ pos 0 ∷ pos 10 ∷ pos 0 ∷ pos 10 ∷ pos 0 ∷ []
 
@@ -175,7 +175,7 @@ unfolding by_self in_order refusal opening_refusal bad_counts short_slices bad_m
 refusals = refl
 
 -- ---- amounts that the cases by hand leave out
--- a point of 100 k_w that verified vp, at a tariff of 1 real: overrun begins above 110, 105 and 101 percent
+-- a point of 100 kW that verified vp, at a tariff of 1 real: overrun begins above 110, 105 and 101 percent
 abbrev measured_row : ℤ → Row
 measured_row vp = pos 1 ∷ pos 1000 ∷ pos 0 ∷ pos 0 ∷ pos 0 ∷ pos 100 ∷ pos 0 ∷ vp ∷ pos 0 ∷ []
 

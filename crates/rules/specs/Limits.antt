@@ -1,5 +1,5 @@
 -- THE LIMITS of opening and closing, said positively (paper 01, "The ledger", "A month's lines" and "Why a month comes back"): what it is to
--- keep each, and their order. Nothing of Refusals' tests stands here; that these limits and those tests agree is proofs/Limits_month.
+-- keep each, and their order. Nothing of Refusals' tests stands here; that these limits and those tests agree is proofs/LimitsMonth.
 use Rattle.std.specs.Prelude.{ℕ, suc, ◌+◌, ◌≤◌, ◌≡◌, ◌⊎◌, List, [], ◌∷◌, ◌++◌, ℤ, pos, ◌+ℤ◌, ◌*ℤ◌, length, ◌<ℤ◌}
 use Rattle.ints.specs.Range.{Within}
 use Rattle.ints.specs.Sums.{sum_ℤ}
