@@ -89,7 +89,7 @@ def months(name):
             if "refused" in event:
                 continue
             expect = {"accepted": {a: event[a] for a in AMOUNTS}}
-            yield f"{number}-{k}", dict(v, ledger=ledger, held=held, cells_len=1088, work_len=2500, expect=expect)
+            yield f"{number}_{k}", dict(v, ledger=ledger, held=held, cells_len=1088, work_len=2500, expect=expect)
             ledger, held = ledger[:2] + [v["month"]], event["held"]
 
 
@@ -114,7 +114,7 @@ def closing(v):
     asked = f"closing ({tall(slices + blocks(v))})"
     if "refused" in v["expect"]:
         number, place = v["expect"]["refused"]
-        return asked, f"comes-back {number} {place}"
+        return asked, f"comes_back {number} {place}"
     a = v["expect"]["accepted"]
     # a closing of the base: no direct charges, so credits are the shared ones
     a = {"ong": [0] * len(v["users"]), "credit": a["vc"], **a}
@@ -136,43 +136,44 @@ def reading(v):
 
 
 def module(words, source, names, fact, numbered):
-    """The facts on these vectors: `names` from elsewhere beside those of every module, `fact` their word and unfolding."""
+    """The facts on these vectors: `names` from elsewhere, `fact` their word and unfolding."""
     word, asked, statement = fact
     text = f"-- {words}: the answers of tests/vectors/{source}.jsonl. Written by tests/vectors/generate.py.\n"
-    text += "".join(f"use {name}\n" for name in ["mathlib.Core.Path.{_≡_, refl}"] + names)
+    text += "".join(f"use {name}\n" for name in names)
     for number, v in numbered:
         left, right = statement(v)
         note = f"-- {v['name']}\n" if "name" in v else ""
-        line = f"{word}-{number} : {left} ≡ {right}"
+        line = f"{word}_{number} : {left} ≡ {right}"
         if "\n" in line or len(line) > 150:
-            line = f"{word}-{number} :\n    {left}\n    ≡ {right}"
-        text += f"\n{note}{line}\nunfolding {asked}\n{word}-{number} = refl\n"
+            line = f"{word}_{number} :\n    {left}\n    ≡ {right}"
+        text += f"\n{note}{line}\nunfolding {asked}\n{word}_{number} = refl\n"
     return text
 
 
 def modules():
-    lists, whole = "mathlib.Core.List.{[], _∷_}", "lib.IntN.{pos}"
-    asked = "Rattle·vectors·specs.specs.Asked.{%s}"
+    whole = "Rattle.std.specs.Prelude.{◌≡◌, pos, refl}"
+    lists = "Rattle.std.specs.Prelude.{◌≡◌, [], ◌∷◌, pos, refl}"
+    asked = "Rattle.vectors.specs.Asked.{%s}"
     closings = vectors("closings")
     return {
         "Shares": module(
             "The share as C sees it", "shares", [whole, asked % "minus, share"], ("share", "share", share),
             vectors("shares")),
         "Openings": module(
-            "Openings", "openings", [whole, "Rattle·rules.specs.Verdict.{accepted, refused}", asked % "opening"],
+            "Openings", "openings", [whole, "Rattle.rules.specs.Verdict.{accepted, refused}", asked % "opening"],
             ("opening", "opening", opening), vectors("openings")),
         "Closings": module(
-            "Accepted months, every amount", "closings", [lists, whole, asked % "minus, closes, closing"],
+            "Accepted months, every amount", "closings", [lists, asked % "minus, closes, closing"],
             ("closing", "closing", closing), [(i, v) for i, v in closings if "accepted" in v["expect"]]),
         "Refusals": module(
-            "Refused months", "closings", [lists, whole, asked % "minus, comes-back, closing"],
+            "Refused months", "closings", [lists, asked % "minus, comes_back, closing"],
             ("closing", "closing", closing), [(i, v) for i, v in closings if "refused" in v["expect"]]),
         "Months": module(
-            "Months of runs, every amount", "runs-Q1", [lists, whole, asked % "minus, closes, closing"],
+            "Months of runs, every amount", "runs-Q1", [lists, asked % "minus, closes, closing"],
             ("month", "closing", closing), list(months("runs-Q1"))),
         "Readings": module(
             "Reading and the file check", "readings",
-            [lists, whole, "Rattle·format.specs.Reading.{accepted, refused}", asked % "minus, texts"],
+            [lists, "Rattle.format.specs.Reading.{accepted, refused}", asked % "minus, texts"],
             ("reading", "texts", reading), vectors("readings")),
     }
 

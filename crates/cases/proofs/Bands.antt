@@ -1,4 +1,4 @@
--- The months of Q_4 come to what was worked out by hand.
+-- The months of Q-4 come to what was worked out by hand.
 use mathlib.Core.Path.{refl}
 use Rattle.ints.specs.Floor.{floor}
 use Rattle.ints.specs.Range.{outside}

@@ -1,4 +1,4 @@
--- The months of Q_8 come to what was worked out by hand; what falls due in the cycle by the theorem over every list of closings.
+-- The months of Q-8 come to what was worked out by hand; what falls due in the cycle by the theorem over every list of closings.
 use mathlib.Core.Path.{refl}
 use mathlib.Core.Logic.{inl, inr}
 use lib.IntN.{pos}

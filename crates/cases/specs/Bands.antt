@@ -1,4 +1,4 @@
--- Paper 02, Q_4: three months worked by hand in which the bands, rounded each for itself, come to other amounts than rounded together, and
+-- Paper 02, Q-4: three months worked by hand in which the bands, rounded each for itself, come to other amounts than rounded together, and
 -- one that comes back since nothing is left of it. A distributor, a consumer and a generator; two agents.
 use Rattle.std.specs.Prelude.{ℕ, ◌≡◌, List, [], ◌∷◌, map, ℤ, pos}
 use Rattle.rules.specs.Verdict.{accepted, refused}

@@ -1,4 +1,4 @@
--- Paper 02, Q_1: two months worked by hand with charges that go straight to ONS (examples/direct.csv), and one that comes back since nobody
+-- Paper 02, Q-1: two months worked by hand with charges that go straight to ONS (examples/direct.csv), and one that comes back since nobody
 -- has a debit. A distributor with 7500, a consumer without and a generator with 41; two agents.
 use Rattle.std.specs.Prelude.{ℕ, ◌≡◌, List, [], ◌∷◌, map, ℤ, pos}
 use Rattle.rules.specs.Verdict.{accepted, refused}

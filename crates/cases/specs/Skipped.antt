@@ -1,4 +1,4 @@
--- Paper 02, Q_8: VMPA worked by hand after months that never closed, and a cycle of paper 01's example month, whose second agent has a
+-- Paper 02, Q-8: VMPA worked by hand after months that never closed, and a cycle of paper 01's example month, whose second agent has a
 -- yearly adjustment of 25: August is skipped, and comes back when it is handed in after September.
 use Rattle.std.specs.Prelude.{ℕ, ◌≡◌, List, [], ◌∷◌, map, ℤ, pos}
 use Rattle.rules.specs.Verdict.{accepted, refused}

@@ -45,7 +45,8 @@ module _ (vc vd cells : List ℤ) where
   size? : Dec (length cells ≡ length vc * length vd)
   size? = ℕ_discrete (length cells) (length vc * length vd)
 
-  cells? : Dec ((i : ℕ) → i < length vc → (j : ℕ) → j < length vd → Cell (slice_index_or vc i (pos 0) *ℤ slice_index_or vd j (pos 0)) (sum_ℤ vd) (cell_at (length vd) cells i j))
+  cells? : Dec ((i : ℕ) → i < length vc → (j : ℕ) → j < length vd → Cell (slice_index_or vc i (pos 0) *ℤ slice_index_or vd j (pos 0)) (sum_ℤ vd)
+      (cell_at (length vd) cells i j))
   cells? = all_below? (length vc) _ (λ i. all_below? (length vd) _ (λ j. cell? _ _ _))
 
   rows? : Dec ((i : ℕ) → i < length vc → Σ< (length vd) (λ j. cell_at (length vd) cells i j) ≡ slice_index_or vc i (pos 0))

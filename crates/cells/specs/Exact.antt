@@ -58,7 +58,7 @@ flip : (x y : ℤ) → x *ℤ y ≡ y *ℤ x
 flip = all2 _ (λ a b c d. simp diff (omega arith))
 
 module _ {m n w : ℕ} {vc : ℕ → ℤ} {vd : ℕ → ℕ} {q : ℕ → ℕ → ℤ} {r : ℕ → ℕ → ℕ} (E : Exact m n w vc vd q r) where
-  -- what a row lacks, and a column wants: naturals, w times which the left_overs come to
+  -- what a row lacks, and a column wants: naturals, w times which the left-overs come to
   pub row_line : (i : ℕ) → i < m → Line (vc i) (Σ< n (λ j. q i j)) w (Σ n (λ j. r i j))
   row_line i h =
       line n w (λ j. vc i *ℤ pos (vd j)) (λ j. q i j) (λ j. r i j) (vc i) E.some (λ j l. E.split i j h l)

@@ -1,6 +1,7 @@
 -- Such a table always exists (paper 01, "The table of cells"): for credits of either sign and debits that are not negative, whose sums
 -- are equal and above 0, whatever their number and size.
-use Rattle.std.specs.Prelude.{◌≡◌, ℕ, zero, suc, ◌+◌, ◌-◌, ◌*◌, ◌/◌, ◌%◌, ◌<◌, ◌≤◌, min, List, [], ◌∷◌, length, get_or, ℤ, pos, ◌+ℤ◌, ◌≤ℤ◌, slice_index, slice_index_or, refl}
+use Rattle.std.specs.Prelude.{◌≡◌, ℕ, zero, suc, ◌+◌, ◌-◌, ◌*◌, ◌/◌, ◌%◌, ◌<◌, ◌≤◌, min, List, [], ◌∷◌, length, get_or, ℤ, pos, ◌+ℤ◌, ◌≤ℤ◌, slice_index}
+use Rattle.std.specs.Prelude.{slice_index_or, refl}
 use Rattle.std.proofs.Common.{sym, ap, ◌∙◌, subst, ⊎_elim, arith, not-suc-le-zero, le_of_suc-le-suc, div-add-mod', mod-lt}
 use Rattle.std.proofs.Math.ListN.{get_or-eq_default}
 use Rattle.std.proofs.Math.Arith.{digits_div, digits_mod}
@@ -32,7 +33,8 @@ tabulate_at (suc n) f d zero h = refl
 tabulate_at (suc n) f d (suc k) h = tabulate_at n (λ k. f (suc k)) d k (le_of_suc-le-suc h)
 
 -- row by row: the entry of row i and column j
-grid_at : {A : Type 0} (m n : ℕ) (f : ℕ → ℕ → A) (d : A) (i j : ℕ) → i < m → j < n → slice_index_or (tabulate (m * n) (λ p. f (p / n) (p % n))) (i * n + j) d ≡ f i j
+grid_at : {A : Type 0} (m n : ℕ) (f : ℕ → ℕ → A) (d : A) (i j : ℕ) → i < m → j < n
+    → slice_index_or (tabulate (m * n) (λ p. f (p / n) (p % n))) (i * n + j) d ≡ f i j
 grid_at m n f d i j h k = tabulate_at (m * n) (λ p. f (p / n) (p % n)) d (i * n + j) (below h k) ∙ ap (λ (t : ℕ). f t ((i * n + j) % n)) (digits_div i k)
     ∙ ap (f i) (digits_mod i k)
 

@@ -1,5 +1,6 @@
 -- What `fill` asks, and how marks added to floors make the table of paper 01.
-use Rattle.std.specs.Prelude.{◌≡◌, ℕ, zero, suc, ◌+◌, ◌-◌, ◌*◌, ◌<◌, ◌≤◌, min, List, length, get_or, take, replicate, ℤ, pos, ◌+ℤ◌, ◌*ℤ◌, ◌≤ℤ◌, FitsSigned, slice_index, slice_index_or, refl}
+use Rattle.std.specs.Prelude.{◌≡◌, ℕ, zero, suc, ◌+◌, ◌-◌, ◌*◌, ◌<◌, ◌≤◌, min, List, length, get_or, take, replicate, ℤ, pos, ◌+ℤ◌, ◌*ℤ◌, ◌≤ℤ◌, FitsSigned}
+use Rattle.std.specs.Prelude.{slice_index, slice_index_or, refl}
 use Rattle.std.proofs.Math.Path.{sym, ap, subst}
 use Rattle.std.proofs.Common.{ap₂, ◌∙◌, arith, zero-add, length-take}
 use Rattle.std.proofs.lemmas.List.{length-replicate}
@@ -92,7 +93,8 @@ post_fits {cells} {out} {marks} {i} A F h =
 pub cells_small : {vc : List ℤ} {debits : List ℕ} {w : ℕ} {cells : List ℤ} {marks lacks wants : List ℕ} → Given vc debits w
     → Floored vc debits w cells marks lacks wants → length cells ≡ length vc * length debits → Small 100000000000000000 cells
 cells_small {vc} {debits} {w} {cells} G F e = record {
-  small = λ p h. everywhere (length vc) (length debits) (λ p. abs (slice_index_or cells p (pos 0)) ≤ 100000000000000000) inside p (subst (λ (t : ℕ). p < t) e h);
+  small = λ p h. everywhere (length vc) (length debits) (λ p. abs (slice_index_or cells p (pos 0)) ≤ 100000000000000000) inside p
+      (subst (λ (t : ℕ). p < t) e h);
 }
   where
     inside : (i j : ℕ) → i < length vc → j < length debits → abs (cell_at (length debits) cells i j) ≤ 100000000000000000
@@ -174,7 +176,8 @@ module _ {vc vd : List ℤ} {debits : List ℕ} {w : ℕ} (B : Balanced vc debit
     column = λ j k.
         let k' : j < length debits = subst (λ (t : ℕ). j < t) (sym long) k in
         rw (debit j k, sym long)
-        (line_by (length vc) (λ i. cell_at (length debits) out i j) (λ i. quot_of vc debits w i j) (λ i. at (length debits) ys i j - 1) (pos (debit_of debits j))
+        (line_by (length vc) (λ i. cell_at (length debits) out i j) (λ i. quot_of vc debits w i j) (λ i. at (length debits) ys i j - 1)
+        (pos (debit_of debits j))
         (slice_index wants j) (λ i h. put i j h k') (col_marks F P j k')
         (F.left.cols j k'));
   }

@@ -44,7 +44,8 @@ less_one l i b h o = go (ℕ_discrete b i)
 
 -- a mark at (i, j), where the row lacks one and the column wants one
 pub kept_mark : {m n : ℕ} (marks lacks wants : List ℕ) (i j : ℕ) → i < m → j < n → i * n + j < length marks → i < length lacks → j < length wants
-    → at n marks i j ≡ 1 → 0 < slice_index lacks i → 0 < slice_index wants j → Kept m n marks lacks wants (slice_set marks (i * n + j) 2) (slice_set lacks i (slice_index lacks i - 1))
+    → at n marks i j ≡ 1 → 0 < slice_index lacks i → 0 < slice_index wants j → Kept m n marks lacks wants (slice_set marks (i * n + j) 2)
+    (slice_set lacks i (slice_index lacks i - 1))
     (slice_set wants j (slice_index wants j - 1))
 kept_mark {m} {n} marks lacks wants i j hi hj hp hl hw e l w =
     let s = mark {m = m} {n = n} marks i j hi hj hp e in record {

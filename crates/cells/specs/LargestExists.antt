@@ -1,4 +1,4 @@
--- Of the tables of some credits and debits one is the largest in list order (paper 02, Q_6), whatever their number and size.
+-- Of the tables of some credits and debits one is the largest in list order (paper 02, Q-6), whatever their number and size.
 use Rattle.std.specs.Prelude.{◌≡◌, ℕ, ◌*◌, ◌/◌, ◌%◌, ◌⊎◌, List, length, ℤ, pos, ◌+ℤ◌, ◌*ℤ◌, ◌≤ℤ◌, slice_index_or}
 use Rattle.std.proofs.Common.{subst, inl, inr}
 use Rattle.ints.specs.Floor.{floor}
@@ -23,7 +23,8 @@ narrow : (vc vd cells : List ℤ) → Table vc vd cells → Narrow (length vc * 
 unfolding floor_at
 narrow vc vd cells T = record { long = T.size; near = λ p h. near p (spot (length vc) (length vd) p h) }
   where
-    near : (p : ℕ) → Spot (length vc) (length vd) p → (slice_index_or cells p (pos 0) ≡ floor_at vc vd p) ⊎ (slice_index_or cells p (pos 0) ≡ floor_at vc vd p +ℤ pos 1)
+    near : (p : ℕ) → Spot (length vc) (length vd) p → (slice_index_or cells p (pos 0) ≡ floor_at vc vd p)
+        ⊎ (slice_index_or cells p (pos 0) ≡ floor_at vc vd p +ℤ pos 1)
     near p s =
         subst (λ (q : ℕ). (slice_index_or cells q (pos 0) ≡ floor_at vc vd p) ⊎ (slice_index_or cells q (pos 0) ≡ floor_at vc vd p +ℤ pos 1)) s.place
         (two (T.cell (p / length vd) (p % length vd) s.row s.column))

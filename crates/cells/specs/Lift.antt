@@ -1,10 +1,10 @@
 -- Before a row is decided its marks are lifted: its columns want them instead. After it, its columns want nothing.
-use Rattle.std.specs.Prelude.{◌≡◌, ℕ, zero, suc, ◌+◌, ◌-◌, ◌*◌, ◌<◌, ◌≤◌, ◌⊎◌, List, length, ◌≢◌, slice_index, slice_index_or, slice_set, refl}
-use Rattle.std.proofs.Common.{sym, ap, ◌∙◌, subst, inl, inr, ⊎_elim, arith, below_none, below_more, length-set, get_or-set_same, get_or-set_other}
+use Rattle.std.specs.Prelude.{◌≡◌, ℕ, zero, suc, ◌+◌, ◌-◌, ◌*◌, ◌<◌, ◌≤◌, List, length, ◌≢◌, slice_index, slice_index_or, slice_set, refl}
+use Rattle.std.proofs.Common.{sym, ap, ◌∙◌, subst, ⊎_elim, arith, below_none, below_more, length-set, get_or-set_same, get_or-set_other}
 use Rattle.std.proofs.Math.Decide.{ℕ_discrete}
 use Rattle.ints.specs.NatSums.{Σ, Σ_ext, Σ_swap, Σ_same, le_or_lt}
-use Rattle.cells.specs.Marks.{at, row, col, one, one_same, one_other, unmark, Kind, kind_same, kind_then, kind_set}
-use Rattle.cells.specs.First.{mk, First, Led}
+use Rattle.cells.specs.Marks.{at, row, col, one_same, one_other, unmark, Kind, kind_same, kind_then, kind_set}
+use Rattle.cells.specs.First.{First, Led}
 use Rattle.cells.specs.Ranks.{Deciding}
 use Rattle.cells.specs.Pass.{earlier}
 
@@ -138,7 +138,8 @@ module _ {m n i j : ℕ} {xs₁ xs wc : List ℕ} (L : Lifted m n i j xs₁ xs w
       let o : (x : ℕ) → x < j → slice_index (slice_set wc j 1) x ≡ slice_index_or wc x 0 = λ x l. get_or-set_other wc j x 1 0 (λ q. absurd (omega arith)) in
       let M = unmark {m = m} {n = n} xs i j hi hj hp e in
       let v : at n (slice_set xs (i * n + j) 1) i j ≡ 1 = get_or-set_same xs (i * n + j) 1 0 hp in
-      let u : (x : ℕ) → x < j → at n (slice_set xs (i * n + j) 1) i x ≡ at n xs i x = λ x l. get_or-set_other xs (i * n + j) (i * n + x) 1 0 (λ q. absurd (omega arith)) in
+      let u : (x : ℕ) → x < j → at n (slice_set xs (i * n + j) 1) i x ≡ at n xs i x = λ x l. get_or-set_other xs (i * n + j) (i * n + x) 1 0
+      (λ q. absurd (omega arith)) in
       record {
         here = omega arith;
         kind = kind_then L.kind (kind_set xs (i * n + j) 1 hp (omega arith) (omega arith) (omega arith));

@@ -54,7 +54,8 @@ module _ {vc vd : List ℤ} {debits : List ℕ} {w : ℕ} (B : Balanced vc debit
     : Placed (length vc) (length debits) marks lacks wants ys) where
   -- ---- another table's marks
   module _ (other : List ℤ) (T : Table vc vd other) where
-    holds : (i j : ℕ) → i < length vc → j < length debits → Extra (cell_at (length debits) cells i j) (rest_of vc debits w i j) (cell_at (length debits) other i j)
+    holds : (i j : ℕ) → i < length vc → j < length debits → Extra (cell_at (length debits) cells i j) (rest_of vc debits w i j)
+        (cell_at (length debits) other i j)
     holds i j h k =
         let k' : j < length vd = subst (λ (t : ℕ). j < t) long k in
         let c : Cell (credit_of vc i *ℤ pos (debit_of debits j)) (pos w) (cell_at (length debits) other i j) =

@@ -1,11 +1,11 @@
 -- The pass, cell by cell: what a cell that stays, a cell that is marked and a search that finds nothing do to the row at hand.
-use Rattle.std.specs.Prelude.{◌≡◌, ℕ, zero, suc, ◌+◌, ◌-◌, ◌*◌, ◌/◌, ◌%◌, ◌<◌, ◌≤◌, min, ◌⊎◌, List, length, ◌≢◌, slice_index, slice_index_or, slice_set, refl}
-use Rattle.std.proofs.Common.{sym, ap, ◌∙◌, subst, inl, inr, ⊎_elim, arith, div-add-mod', div-lt_iff_lt-mul, mod-lt, below_more, get_or-set_same, get_or-set_other}
+use Rattle.std.specs.Prelude.{◌≡◌, ℕ, zero, suc, ◌+◌, ◌-◌, ◌*◌, ◌/◌, ◌%◌, ◌<◌, ◌≤◌, ◌⊎◌, List, length, ◌≢◌, slice_index, slice_index_or, slice_set, refl}
+use Rattle.std.proofs.Common.{sym, ap, ◌∙◌, subst, inl, inr, ⊎_elim, arith, div-add-mod', div-lt_iff_lt-mul, mod-lt, below_more, get_or-set_same}
+use Rattle.std.proofs.Common.{get_or-set_other}
 use Rattle.std.proofs.Math.Decide.{ℕ_discrete}
-use Rattle.ints.specs.NatSums.{Σ, Σ_same, le_or_lt}
-use Rattle.cells.specs.Marks.{at, row, col, one, one_same, one_other, More, mark, below, Kind, kind_same, kind_then, kind_set}
+use Rattle.ints.specs.NatSums.{le_or_lt}
+use Rattle.cells.specs.Marks.{at, row, col, one, one_other, More, mark, Kind, kind_same, kind_then, kind_set}
 use Rattle.cells.specs.Kept.{less_one}
-use Rattle.cells.specs.Visit.{Moved, Shut}
 use Rattle.cells.specs.First.{mk, Other, First}
 use Rattle.cells.specs.Ranks.{Deciding, settled}
 
@@ -36,7 +36,8 @@ earlier xs ys n i j same h q l = go n refl
 
 module _ {m n i j : ℕ} {xs₀ xs wc rk : List ℕ} (D : Deciding m n i j xs₀ xs wc rk) (hi : i < m) (hj : j < n) where
   -- ---- the cell stays
-  stay : slice_index_or wc j 0 ≡ 0 → ((y : ℕ → ℕ) → Other m n xs₀ y → ((q : ℕ) → q < i * n + j → y q ≡ mk xs q) → y (i * n + j) ≡ 0) → Deciding m n i (j + 1) xs₀ xs wc rk
+  stay : slice_index_or wc j 0 ≡ 0 → ((y : ℕ → ℕ) → Other m n xs₀ y → ((q : ℕ) → q < i * n + j → y q ≡ mk xs q) → y (i * n + j) ≡ 0)
+      → Deciding m n i (j + 1) xs₀ xs wc rk
   stay w none = record {
     kind = D.kind;
     small = D.small;
@@ -64,7 +65,8 @@ module _ {m n i j : ℕ} {xs₀ xs wc rk : List ℕ} (D : Deciding m n i j xs₀
       zero_of (suc (suc v)) l g = absurd (omega arith)
 
   -- no column of a rank up to p, which this cell's has, is wanted
-  pub stay_settled : (p : ℕ) → slice_index rk j ≤ p → ((x : ℕ) → j ≤ x → x < n → slice_index rk x ≤ p → slice_index wc x ≡ 0) → Deciding m n i (j + 1) xs₀ xs wc rk
+  pub stay_settled : (p : ℕ) → slice_index rk j ≤ p → ((x : ℕ) → j ≤ x → x < n → slice_index rk x ≤ p → slice_index wc x ≡ 0)
+      → Deciding m n i (j + 1) xs₀ xs wc rk
   stay_settled p l none = stay (none j (omega arith) hj l) (λ y O agree. settled D hi y O agree p none hj l)
 
   -- a wanted column has at least the rank of a broken one that is not
@@ -78,7 +80,8 @@ module _ {m n i j : ℕ} {xs₀ xs wc rk : List ℕ} (D : Deciding m n i j xs₀
       (kind : Kind xs ys) (fewer : (x : ℕ) → slice_index wd x ≤ slice_index wc x)
       (upper : (b x : ℕ) → b ≤ i → x < n → at n ys b x ≡ at n xs b x)
       (ranked : (b x x' : ℕ) → i < b → b < m → x < n → x' < n → at n ys b x ≡ 2 → at n ys b x' ≡ 1 → slice_index rk x' ≤ slice_index rk x)
-      (lifted : (x x' : ℕ) → j < x → x < n → j < x' → x' < n → 0 < slice_index wd x → slice_index wd x' ≡ 0 → at n xs i x' ≡ 1 → slice_index rk x' ≤ slice_index rk x) where
+      (lifted : (x x' : ℕ) → j < x → x < n → j < x' → x' < n → 0 < slice_index wd x → slice_index wd x' ≡ 0 → at n xs i x' ≡ 1
+      → slice_index rk x' ≤ slice_index rk x) where
     pub raise : i * n + j < length ys → Deciding m n i (j + 1) xs₀ (slice_set ys (i * n + j) 2) wd rk
     raise hp =
         let e' : at n ys i j ≡ 1 = upper i j (omega arith) hj ∙ e in
@@ -116,10 +119,12 @@ module _ {m n i j : ℕ} {xs₀ xs wc rk : List ℕ} (D : Deciding m n i j xs₀
             omega (arith, s, upper i x (omega arith) h, D.some x h (omega (arith, fewer x)))
 
   -- the column wants the cell's own mark back
-  pub raise_own : 0 < slice_index wc j → j < length wc → i * n + j < length xs → Deciding m n i (j + 1) xs₀ (slice_set xs (i * n + j) 2) (slice_set wc j (slice_index wc j - 1)) rk
+  pub raise_own : 0 < slice_index wc j → j < length wc → i * n + j < length xs
+      → Deciding m n i (j + 1) xs₀ (slice_set xs (i * n + j) 2) (slice_set wc j (slice_index wc j - 1)) rk
   raise_own w hw hp =
       let e : at n xs i j ≡ 1 = omega (arith, D.some j hj w, D.clear j (omega arith) hj) in
-      let o : (x : ℕ) → j < x → slice_index (slice_set wc j (slice_index wc j - 1)) x ≡ slice_index_or wc x 0 = λ x l. get_or-set_other wc j x (slice_index wc j - 1) 0 (λ q. omega arith) in
+      let o : (x : ℕ) → j < x → slice_index (slice_set wc j (slice_index wc j - 1)) x ≡ slice_index_or wc x 0 = λ x l. get_or-set_other wc j x
+      (slice_index wc j - 1) 0 (λ q. omega arith) in
       raise e (omega (arith, get_or-set_same wc j (slice_index wc j - 1) 0 hw, D.lone j hj))
       (λ b h. refl)
       (λ x h. omega (arith, less_one wc j x hw w))

@@ -28,7 +28,8 @@ pub never : {m n : ℕ} {xs wr wc ro co ro' co' : List ℕ} → Feasible m n xs 
 unfolding row col
 never {m} {n} {xs} {wr} {wc} {ro} {co} {ro'} {co'} F small o o' S i hi z w =
     let e : row n xs i ≡ row n xs i + slice_index_or wr i 0 =
-    cut_rows m n F.cap (λ i j. at n xs i j) F.y (λ i. row n xs i + slice_index wr i) (λ j. col m n xs j + slice_index wc j) (λ i. slice_index ro' i) (λ j. slice_index co' j)
+    cut_rows m n F.cap (λ i j. at n xs i j) F.y (λ i. row n xs i + slice_index wr i) (λ j. col m n xs j + slice_index wc j) (λ i. slice_index ro' i)
+    (λ j. slice_index co' j)
     F.witness
     (record { row = λ i j h k. S.row i j h k (o i h); col = λ i j h k. S.col i j h k (o' j k) })
     (λ i j h k. small (i * n + j))
@@ -91,7 +92,8 @@ module _ {m n : ℕ} {xs wr wc xs' wr' wc' ro' co' : List ℕ} {i : ℕ} (g : Go
       }
 
   -- the visit of row i, from open rows and columns, found a mark
-  pub going_on : Feasible m n xs wr wc → ((p : ℕ) → slice_index xs p ≤ 2) → i < m → i < length wr' → 0 < slice_index wr' i → {ro co : List ℕ} → length ro ≡ length ro'
+  pub going_on : Feasible m n xs wr wc → ((p : ℕ) → slice_index xs p ≤ 2) → i < m → i < length wr' → 0 < slice_index wr' i → {ro co : List ℕ}
+      → length ro ≡ length ro'
       → length co ≡ length co' → ro ≡ replicate (length ro') 1 → co ≡ replicate (length co') 1 → {ys wd ro'' co'' : List ℕ} (r : Bool)
       → RowVisited (length ro) (length co) xs' wc' ro co ys wd ro'' co'' i r → length ys ≡ length xs' → length wd ≡ length wc' → length ro'' ≡ length ro
       → length co'' ≡ length co → Going m n xs wr wc ys (slice_set wr' i (slice_index wr' i - 1)) wd ro'' co'' i

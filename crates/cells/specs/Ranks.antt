@@ -3,7 +3,7 @@
 -- Where that holds of all rows after row i, the columns of rank p or less can give row i nothing (`settled`).
 use Rattle.std.specs.Prelude.{◌≡◌, ℕ, zero, suc, ◌+◌, ◌-◌, ◌*◌, ◌<◌, ◌≤◌, Bool, true, false, ltb, ◌⊎◌, List, ◌≢◌, nat_lt, slice_index}
 use Rattle.std.proofs.Math.Path.{refl, sym, ap}
-use Rattle.std.proofs.Common.{◌∙◌, subst, inl, inr, not-suc-le-zero}
+use Rattle.std.proofs.Common.{◌∙◌, inl, inr, not-suc-le-zero}
 use Rattle.std.proofs.Math.Logic.{⊎_elim}
 use native.Mathlib.Omega.{arith}
 use Rattle.std.proofs.Math.Decide.{ℕ_discrete}
@@ -129,7 +129,8 @@ pub record Deciding (m n i j : ℕ) (xs₀ xs wc rk : List ℕ) : Type 0 where
   pub some : (x : ℕ) → x < n → 0 < slice_index wc x → 0 < at n xs i x
   -- in every later row, and in what is left of row i, a marked column has at least the rank of a broken one without a mark
   pub ranked : (b x x' : ℕ) → i < b → b < m → x < n → x' < n → at n xs b x ≡ 2 → at n xs b x' ≡ 1 → slice_index rk x' ≤ slice_index rk x
-  pub lifted : (x x' : ℕ) → j ≤ x → x < n → j ≤ x' → x' < n → 0 < slice_index wc x → slice_index wc x' ≡ 0 → at n xs i x' ≡ 1 → slice_index rk x' ≤ slice_index rk x
+  pub lifted : (x x' : ℕ) → j ≤ x → x < n → j ≤ x' → x' < n → 0 < slice_index wc x → slice_index wc x' ≡ 0 → at n xs i x' ≡ 1
+      → slice_index rk x' ≤ slice_index rk x
   pub first : First m n xs₀ xs (i * n + j)
 
 -- another choice that agrees with xs so far
@@ -152,7 +153,8 @@ module _ {m n i j : ℕ} {xs₀ xs wc rk : List ℕ} (D : Deciding m n i j xs₀
 
   module _ (p : ℕ) where
     -- the columns of rank p or less, row by row
-    by_rows : (f : ℕ → ℕ → ℕ) → Σ n (λ x. up_to p (slice_index rk x) (Σ m (λ a. after i a (f a x)))) ≡ Σ m (λ a. after i a (Σ n (λ x. up_to p (slice_index rk x) (f a x))))
+    by_rows : (f : ℕ → ℕ → ℕ) → Σ n (λ x. up_to p (slice_index rk x) (Σ m (λ a. after i a (f a x))))
+        ≡ Σ m (λ a. after i a (Σ n (λ x. up_to p (slice_index rk x) (f a x))))
     unfolding after up_to only
     by_rows f =
         Σ_ext n _ _ (λ x l. sym (only_sum (nat_lt (slice_index rk x) (suc p)) m (λ a. after i a (f a x))))
@@ -176,7 +178,8 @@ module _ {m n i j : ℕ} {xs₀ xs wc rk : List ℕ} (D : Deciding m n i j xs₀
     later : Σ n (λ x. up_to p (slice_index rk x) (ours x)) ≤ Σ n (λ x. up_to p (slice_index rk x) (theirs x))
     unfolding ours theirs
     later =
-        let h : Σ m (λ a. after i a (Σ n (λ x. up_to p (slice_index rk x) (at n xs a x - 1)))) ≤ Σ m (λ a. after i a (Σ n (λ x. up_to p (slice_index rk x) (y (a * n + x))))) =
+        let h : Σ m (λ a. after i a (Σ n (λ x. up_to p (slice_index rk x) (at n xs a x - 1))))
+        ≤ Σ m (λ a. after i a (Σ n (λ x. up_to p (slice_index rk x) (y (a * n + x))))) =
         Σ_mono m _ _ (λ a ha. ⊎_elim (λ l. omega (arith, after_no i a (Σ n (λ x. up_to p (slice_index rk x) (at n xs a x - 1))) l)) (λ l. omega (
           arith,
           after_yes i a (Σ n (λ x. up_to p (slice_index rk x) (at n xs a x - 1))) l,
@@ -205,7 +208,8 @@ module _ {m n i j : ℕ} {xs₀ xs wc rk : List ℕ} (D : Deciding m n i j xs₀
       no_more : Σ n other ≤ Σ n mine
       unfolding mine other up_to
       no_more =
-          let a : Σ n (λ x. up_to p (slice_index rk x) (y (i * n + x) + theirs x)) ≡ Σ n (λ x. up_to p (slice_index rk x) (at n xs i x - 1 + slice_index wc x + ours x)) =
+          let a : Σ n (λ x. up_to p (slice_index rk x) (y (i * n + x) + theirs x))
+          ≡ Σ n (λ x. up_to p (slice_index rk x) (at n xs i x - 1 + slice_index wc x + ours x)) =
           Σ_ext n _ _ (λ x h. ap (up_to p (slice_index rk x)) (omega (arith, balance x h))) in
           omega (
             arith,
@@ -215,7 +219,8 @@ module _ {m n i j : ℕ} {xs₀ xs wc rk : List ℕ} (D : Deciding m n i j xs₀
             parts (λ x. at n xs i x - 1 + slice_index wc x) ours,
           )
         where
-          parts : (f g : ℕ → ℕ) → Σ n (λ x. up_to p (slice_index rk x) (f x + g x)) ≡ Σ n (λ x. up_to p (slice_index rk x) (f x)) + Σ n (λ x. up_to p (slice_index rk x) (g x))
+          parts : (f g : ℕ → ℕ) → Σ n (λ x. up_to p (slice_index rk x) (f x + g x))
+              ≡ Σ n (λ x. up_to p (slice_index rk x) (f x)) + Σ n (λ x. up_to p (slice_index rk x) (g x))
           parts f g = Σ_ext n _ _ (λ x h. only_add (nat_lt (slice_index rk x) (suc p)) (f x) (g x)) ∙ Σ_add n _ _
 
       pub settled : j < n → slice_index rk j ≤ p → y (i * n + j) ≡ 0

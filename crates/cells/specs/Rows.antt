@@ -51,7 +51,8 @@ pub summed_more : {w : ℕ} {f : ℕ → ℕ} {wants lefts wants' lefts' : List 
     → Summed w f wants lefts (slice_set wants' j (slice_index wants' j + c)) (slice_set lefts' j (s - c * w)) (j + 1)
 summed_more {w} {f} {wants} {lefts} {wants'} {lefts'} {j} S hw hl r s c er es C =
     let now = S.later j (omega arith) in
-    let new = carried w c s (slice_index wants' j) (slice_index lefts' j) (slice_index (slice_set wants' j (slice_index wants' j + c)) j) (slice_index (slice_set lefts' j (s - c * w)) j) r es C
+    let new = carried w c s (slice_index wants' j) (slice_index lefts' j) (slice_index (slice_set wants' j (slice_index wants' j + c)) j)
+    (slice_index (slice_set lefts' j (s - c * w)) j) r es C
     (get_or-set_same wants' j (slice_index wants' j + c) 0 hw) (get_or-set_same lefts' j (s - c * w) 0 hl) in
     let e : slice_index_or wants' j 0 * w ≡ slice_index wants j * w = ap (λ (t : ℕ). t * w) now.0 in record {
       done = below_more _ _ (λ k l. rw (other k l, other' k l) (S.done k l)) (omega (arith, new.0, now.1));
@@ -134,7 +135,8 @@ module _ {v : ℤ} {debits : List ℕ} {w : ℕ} {cells : List ℤ} {marks wants
   pub column_few : slice_index_or wants' j 0 ≤ 257
   column_few = omega (arith, A.few j, (R.row.sum.later j (omega arith)).0)
 
-  pub row_more : (q : ℤ) (r : ℕ) → q ≡ quot_at v debits w j → r ≡ rest_at v debits w j → (b : ℕ) → b ≡ min 1 r → (c : ℕ) → Carried (slice_index lefts' j + r) w c
+  pub row_more : (q : ℤ) (r : ℕ) → q ≡ quot_at v debits w j → r ≡ rest_at v debits w j → (b : ℕ) → b ≡ min 1 r → (c : ℕ)
+      → Carried (slice_index lefts' j + r) w c
       → (d : ℕ) → Carried (left + r) w d → RowGoing v debits w cells marks wants lefts base (slice_set cells' (base + j) q) (slice_set marks' (base + j) b)
       (slice_set wants' j (slice_index wants' j + c)) (slice_set lefts' j (slice_index lefts' j + r - c * w)) (j + 1) (lacks + d) (left + r - d * w)
   unfolding Σ

@@ -1,6 +1,7 @@
 -- The search as a theorem, for tables of any size: a visit always ends, with a mark found or with its part closed. By induction on what
 -- is still open, from the same steps that the code takes.
-use Rattle.std.specs.Prelude.{◌≡◌, ℕ, zero, suc, ◌+◌, ◌-◌, ◌*◌, ◌<◌, ◌≤◌, Bool, true, false, List, length, replicate, slice_index, slice_index_or, slice_set, refl}
+use Rattle.std.specs.Prelude.{◌≡◌, ℕ, zero, suc, ◌+◌, ◌-◌, ◌*◌, ◌<◌, ◌≤◌, Bool, true, false, List, length, replicate, slice_index, slice_index_or, slice_set}
+use Rattle.std.specs.Prelude.{refl}
 use Rattle.std.proofs.Common.{sym, ap, ap₂, ◌∙◌, arith, length-set}
 use Rattle.std.proofs.Math.Decide.{ℕ_discrete, dec_lt}
 use Rattle.std.proofs.lemmas.List.{length-replicate, get_or-replicate}
@@ -35,7 +36,8 @@ ColAnswer marks wants rows columns j = Answer marks wants rows columns (λ ys wd
 
 -- visits with at most k open
 abbrev Rows : ℕ → Type 0
-Rows k = (marks wants rows columns : List ℕ) (i : ℕ) → Shape marks wants rows columns → i < length rows → 0 < slice_index rows i → total rows + total columns ≤ k
+Rows k = (marks wants rows columns : List ℕ) (i : ℕ) → Shape marks wants rows columns → i < length rows → 0 < slice_index rows i
+    → total rows + total columns ≤ k
     → RowAnswer marks wants rows columns i
 
 abbrev Cols : ℕ → Type 0
@@ -50,7 +52,8 @@ record FreeAt (n : ℕ) (marks wants columns : List ℕ) (i : ℕ) : Type 0 wher
 free_from : (n : ℕ) (marks wants columns : List ℕ) (i d j best most : ℕ) → j + d ≡ n → FreeInv n marks wants columns i best most j
     → FreeAt n marks wants columns i
 free_from n marks wants columns i zero j best most e I = record { place = best; free = free_end I (omega arith) }
-free_from n marks wants columns i (suc d) j best most e I = go (dec_lt most (slice_index wants j)) (ℕ_discrete (at n marks i j) 1) (dec_lt 0 (slice_index columns j))
+free_from n marks wants columns i (suc d) j best most e I = go (dec_lt most (slice_index wants j)) (ℕ_discrete (at n marks i j) 1)
+    (dec_lt 0 (slice_index columns j))
     (λ b m J. free_from n marks wants columns i d (j + 1) b m (omega arith) J)
   where
     h : j < n
@@ -64,7 +67,8 @@ free_from n marks wants columns i (suc d) j best most e I = go (dec_lt most (sli
     go (yes p) (yes q) (no r) on = on best most (free_pass I h (λ a b. absurd (r b)))
 
 -- ---- a row, from visits of columns
-module _ (k : ℕ) (cols : Cols k) (marks wants rows columns : List ℕ) (i : ℕ) (S : Shape marks wants rows columns) (hi : i < length rows) (o : 0 < slice_index rows i)
+module _ (k : ℕ) (cols : Cols k) (marks wants rows columns : List ℕ) (i : ℕ) (S : Shape marks wants rows columns) (hi : i < length rows)
+    (o : 0 < slice_index rows i)
     (most : total rows + total columns ≤ suc k) where
   row_loop : (f : ℕ) → Free (length columns) marks wants columns i f → length columns ≤ f → (d j : ℕ) {ms ws ro co : List ℕ} → j + d ≡ length columns
       → RowInv (length rows) (length columns) marks wants (slice_set rows i 0) columns i ms ws ro co j → RowAnswer marks wants rows columns i
@@ -145,7 +149,8 @@ module _ (k : ℕ) (cols : Cols k) (marks wants rows columns : List ℕ) (i : �
 -- ---- a column, from visits of rows
 module _ (k : ℕ) (row : Rows k) (marks wants rows columns : List ℕ) (j : ℕ) (S : Shape marks wants rows columns) (hj : j < length columns) (o : 0
     < slice_index columns j) (w : slice_index_or wants j 0 ≡ 0) (most : total rows + total columns ≤ suc k) where
-  col_loop : (d i : ℕ) {ms ws ro co : List ℕ} → i + d ≡ length rows → ColInv (length rows) (length columns) marks wants rows (slice_set columns j 0) j ms ws ro co i
+  col_loop : (d i : ℕ) {ms ws ro co : List ℕ} → i + d ≡ length rows
+      → ColInv (length rows) (length columns) marks wants rows (slice_set columns j 0) j ms ws ro co i
       → ColAnswer marks wants rows columns j
   col_loop zero i {ms} {ws} {ro} {co} e I = record {
     found = false;

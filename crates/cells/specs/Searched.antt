@@ -2,13 +2,13 @@
 -- exchange the cell is marked, and ranks stay right since every row has swapped marks within one rank. Where it finds none the columns that it
 -- reached keep their rank, and the others of that rank and above go one up: no row has a mark in what was reached and a broken unmarked cell
 -- outside.
-use Rattle.std.specs.Prelude.{◌≡◌, ℕ, zero, suc, ◌+◌, ◌-◌, ◌*◌, ◌<◌, ◌≤◌, min, ◌⊎◌, List, length, ◌≢◌, slice_index, slice_index_or, slice_set, refl}
+use Rattle.std.specs.Prelude.{◌≡◌, ℕ, zero, suc, ◌+◌, ◌-◌, ◌*◌, ◌<◌, ◌≤◌, ◌⊎◌, List, length, ◌≢◌, slice_index, slice_index_or, slice_set, refl}
 use Rattle.std.proofs.Math.Path.{sym, ap}
-use Rattle.std.proofs.Common.{◌∙◌, subst, inl, inr}
+use Rattle.std.proofs.Common.{◌∙◌, inl, inr}
 use Rattle.std.proofs.Math.Logic.{⊎_elim}
 use native.Mathlib.Omega.{arith}
 use Rattle.std.proofs.Math.Decide.{ℕ_discrete}
-use Rattle.ints.specs.NatSums.{Σ, Σ_ext, Σ_same, le_or_lt}
+use Rattle.ints.specs.NatSums.{Σ_ext, Σ_same, le_or_lt}
 use Rattle.cells.specs.Marks.{at, row, col, one, one_other}
 use Rattle.cells.specs.Visit.{Moved, Shut}
 use Rattle.cells.specs.Ranks.{Deciding}
@@ -86,9 +86,11 @@ module _ {m n i j : ℕ} {xs₀ xs wc rk : List ℕ} (D : Deciding m n i j xs₀
           same = Σ_same n (λ z. at n ys b z - 1) (λ z. at n xs b z - 1) least (omega (arith, M.rows b hb)) x' h'
 
       still_ranked : slice_index_or rk x' 0 ≤ slice_index rk x
-      still_ranked = go (ℕ_discrete (slice_index rk x) (slice_index rk j)) (ℕ_discrete (slice_index rk x') (slice_index rk j)) (le_or_lt (slice_index rk x') (slice_index rk x))
+      still_ranked = go (ℕ_discrete (slice_index rk x) (slice_index rk j)) (ℕ_discrete (slice_index rk x') (slice_index rk j))
+          (le_or_lt (slice_index rk x') (slice_index rk x))
         where
-          go : Dec (slice_index rk x ≡ slice_index rk j) → Dec (slice_index rk x' ≡ slice_index rk j) → (slice_index rk x' ≤ slice_index rk x) ⊎ (slice_index rk x < slice_index rk x')
+          go : Dec (slice_index rk x ≡ slice_index rk j) → Dec (slice_index rk x' ≡ slice_index rk j)
+              → (slice_index rk x' ≤ slice_index rk x) ⊎ (slice_index rk x < slice_index rk x')
               → slice_index rk x' ≤ slice_index rk x
           go q r (inl s) = s
           go (yes q) (yes r) (inr s) = omega arith
@@ -97,7 +99,8 @@ module _ {m n i j : ℕ} {xs₀ xs wc rk : List ℕ} (D : Deciding m n i j xs₀
           go (no q) (no r) (inr s) = D.ranked b x x' l hb h h' (sym (fixed x h q b) ∙ a) (sym (fixed x' h' r b) ∙ c)
 
     -- a column that no longer wants its mark has rank p
-    still_lifted : (x x' : ℕ) → j < x → x < n → j < x' → x' < n → 0 < slice_index wd x → slice_index wd x' ≡ 0 → at n xs i x' ≡ 1 → slice_index rk x' ≤ slice_index rk x
+    still_lifted : (x x' : ℕ) → j < x → x < n → j < x' → x' < n → 0 < slice_index wd x → slice_index wd x' ≡ 0 → at n xs i x' ≡ 1
+        → slice_index rk x' ≤ slice_index rk x
     unfolding col
     still_lifted x x' l h l' h' o z a =
         let o' : 0 < slice_index_or wc x 0 = omega (arith, M.fewer x) in
@@ -127,12 +130,15 @@ module _ {m n i j : ℕ} {xs₀ xs wc rk : List ℕ} (D : Deciding m n i j xs₀
 
     -- ranks keep their order, if a column that was reached draws along those of its rank
     in_order : (x x' : ℕ) → x < n → x' < n → slice_index rk x' ≤ slice_index rk x
-        → (slice_index rk x ≡ slice_index rk j → slice_index rk x' ≡ slice_index rk j → slice_index co' x ≡ 0 → slice_index co' x' ≡ 0) → slice_index rk' x' ≤ slice_index rk' x
-    in_order x x' h h' o draws = go (le_or_lt (slice_index rk x) (slice_index rk j)) (le_or_lt (slice_index co' x) 0) (le_or_lt (slice_index rk x) (slice_index rk x'))
+        → (slice_index rk x ≡ slice_index rk j → slice_index rk x' ≡ slice_index rk j → slice_index co' x ≡ 0 → slice_index co' x' ≡ 0)
+        → slice_index rk' x' ≤ slice_index rk' x
+    in_order x x' h h' o draws = go (le_or_lt (slice_index rk x) (slice_index rk j)) (le_or_lt (slice_index co' x) 0)
+        (le_or_lt (slice_index rk x) (slice_index rk x'))
         (ℕ_discrete (slice_index rk x') (slice_index rk j))
       where
         go : (slice_index rk x ≤ slice_index rk j) ⊎ (slice_index rk j < slice_index rk x) → (slice_index co' x ≤ 0) ⊎ (0 < slice_index co' x)
-            → (slice_index rk x ≤ slice_index rk x') ⊎ (slice_index rk x' < slice_index rk x) → Dec (slice_index rk x' ≡ slice_index rk j) → slice_index rk' x' ≤ slice_index rk' x
+            → (slice_index rk x ≤ slice_index rk x') ⊎ (slice_index rk x' < slice_index rk x) → Dec (slice_index rk x' ≡ slice_index rk j)
+            → slice_index rk' x' ≤ slice_index rk' x
         go (inr u) z s d = omega (arith, P.higher x h u, grown x' h')
         go (inl u) (inr z) s d = omega (arith, P.missed x h z, grown x' h')
         go (inl u) (inl z) (inr s) d = omega (arith, P.kept x h u (omega arith), grown x' h')
@@ -168,7 +174,8 @@ module _ {m n i j : ℕ} {xs₀ xs wc rk : List ℕ} (D : Deciding m n i j xs₀
         wanted o =
             let u : slice_index_or rk j 0 ≤ slice_index_or rk x 0 = wanted_rank D hi hj e w x l h o in
             ⊎_elim
-            (λ v. ⊎_elim (λ z. S.full x h (K.ranked x h (omega arith)) (omega arith)) (λ z. absurd (omega (arith, P.missed x h z))) (le_or_lt (slice_index co' x) 0))
+            (λ v. ⊎_elim (λ z. S.full x h (K.ranked x h (omega arith)) (omega arith)) (λ z. absurd (omega (arith, P.missed x h z)))
+            (le_or_lt (slice_index co' x) 0))
             (λ v. absurd (omega (arith, P.higher x h v)))
             (le_or_lt (slice_index rk x) (slice_index rk j))
 

@@ -1,6 +1,6 @@
 -- The loops of the two visits. A visit of row i begins with ro at i set to 0, and goes through the columns; a visit of column j goes through the rows.
 -- Unprimed lists are those at the visit's entry, primed ones those at the loop's head.
-use Rattle.std.specs.Prelude.{◌≡◌, ℕ, zero, suc, ◌+◌, ◌-◌, ◌*◌, ◌<◌, ◌≤◌, Bool, true, false, List, length, set, slice_index, slice_set, refl}
+use Rattle.std.specs.Prelude.{◌≡◌, ℕ, zero, suc, ◌+◌, ◌-◌, ◌*◌, ◌<◌, ◌≤◌, Bool, true, false, List, length, slice_index, slice_set, refl}
 use Rattle.std.proofs.Common.{sym, ◌∙◌, arith, below_none, below_more}
 use Rattle.ints.specs.NatSums.{total, total_set}
 use Rattle.cells.specs.Marks.{at, below}

@@ -1,7 +1,8 @@
 -- The search: what a visit of a row, or of a column, has done where it found a column that wants a mark, and where it found none.
 -- xs holds the cells' states; ro and co hold, of each row and column, a number above 0 while it is open, and 0 once it was visited.
 -- wc holds the marks that each column still wants.
-use Rattle.std.specs.Prelude.{◌≡◌, ℕ, zero, suc, ◌+◌, ◌-◌, ◌*◌, ◌<◌, ◌≤◌, Bool, true, false, ◌⊎◌, List, length, ◌≢◌, slice_index, slice_index_or, slice_set, refl}
+use Rattle.std.specs.Prelude.{◌≡◌, ℕ, zero, suc, ◌+◌, ◌-◌, ◌*◌, ◌<◌, ◌≤◌, Bool, true, false, ◌⊎◌, List, length, ◌≢◌, slice_index, slice_index_or, slice_set}
+use Rattle.std.specs.Prelude.{refl}
 use Rattle.std.proofs.Common.{sym, ap, ◌∙◌, inl, inr, ⊎_elim, arith, below_none, below_more, get_or-set_same, get_or-set_other}
 use Rattle.std.proofs.Math.Decide.{ℕ_discrete}
 use Rattle.ints.specs.NatSums.{total, total_set}
@@ -52,7 +53,8 @@ zero_or : (a : ℕ) → (a ≡ 0) ⊎ (0 < a)
 zero_or zero = inl refl
 zero_or (suc a) = inr (omega arith)
 
-pub shut_then : {m n : ℕ} {xs wc ro co ro' co' ro'' co'' : List ℕ} → Shut m n xs wc ro co ro' co' → Shut m n xs wc ro' co' ro'' co'' → Shut m n xs wc ro co ro'' co''
+pub shut_then : {m n : ℕ} {xs wc ro co ro' co' ro'' co'' : List ℕ} → Shut m n xs wc ro co ro' co' → Shut m n xs wc ro' co' ro'' co''
+    → Shut m n xs wc ro co ro'' co''
 shut_then {ro' = ro'} {co' = co'} a b = record {
   rows = λ i h. b.rows i (a.rows i h);
   cols = λ x h. b.cols x (a.cols x h);
@@ -117,7 +119,8 @@ open_other l b i o e q = let s : slice_index_or l i 0 ≡ 0 = rw q at e in omega
 
 -- row i takes the column j, which wants a mark
 pub row_take : {m n : ℕ} {xs wc ro co : List ℕ} (i j : ℕ) → i < m → j < n → i * n + j < length xs → j < length wc → at n xs i j ≡ 1 → 0 < slice_index wc j
-    → 0 < slice_index ro i → 0 < slice_index co j → Moved m n xs wc ro co (slice_set xs (i * n + j) 2) (slice_set wc j (slice_index wc j - 1)) (λ b. one b i) (λ x. 0)
+    → 0 < slice_index ro i → 0 < slice_index co j → Moved m n xs wc ro co (slice_set xs (i * n + j) 2) (slice_set wc j (slice_index wc j - 1))
+    (λ b. one b i) (λ x. 0)
 row_take {m} {n} {xs} {wc} {ro} {co} i j hi hj hp hw e w o o' =
     let s = mark {m = m} {n = n} xs i j hi hj hp e in record {
       rows = s.rows;

@@ -30,7 +30,7 @@ fn most_wanting(marks: &[u64], wants: &[u64], columns: &[u64], i: usize) -> usiz
 }
 
 // Visits row i, which is open: finds it one more mark, or shows that there is none to be had.
-#[cycle(visit_column_visit_row)]
+#[cycle(visit)]
 pub(crate) fn visit_row(
     marks: &mut [u64],
     wants: &mut [u64],
@@ -68,7 +68,7 @@ pub(crate) fn visit_row(
 }
 
 // Visits column j, which is open and wants no mark: has it give up a mark whose row finds another, or shows that there is none such.
-#[cycle(visit_column_visit_row)]
+#[cycle(visit)]
 pub(crate) fn visit_column(
     marks: &mut [u64],
     wants: &mut [u64],

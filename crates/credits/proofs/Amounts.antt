@@ -41,7 +41,7 @@ module _ {agents : List Agent} (l : AgentLines agents) where
   pub pb_summable : Summable (pbs agents)
   pb_summable = summable _ pb_words tt tt
 
-  pb_total : Word 0 most_parcels (sum_ℤ (pbs agents))
+  pub pb_total : Word 0 most_parcels (sum_ℤ (pbs agents))
   pb_total = word_sum most_amount 256 _ pb_words (few _) tt
 
   pub pv_summable : Summable (pvs agents)
@@ -67,7 +67,7 @@ module _ {debits last : ℤ} {line : MonthLine} {agents : List Agent} (p : Payab
   owed : Word 0 most_debits debits
   owed = let w = p.owed in word (omega za) (omega za) tt
 
-  balance : Word 102500000000000 most_balance (SMSEFrom debits last line agents)
+  pub balance : Word 102500000000000 most_balance (SMSEFrom debits last line agents)
   unfolding SMSEFrom
   balance = word_sub (word_sub owed (own_total p.lines last line p.months) tt) (amount p.fee) tt
 

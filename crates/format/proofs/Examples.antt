@@ -49,7 +49,7 @@ wrong_lines :
 unfolding check_of judge onward format more line in_value enter step
 wrong_lines = refl
 
--- LINE ENDS (paper 02, Q_3): the same file with CR LF after every line, and after some of them
+-- LINE ENDS (paper 02, Q-3): the same file with CR LF after every line, and after some of them
 abbrev office : String
 office =
     "month,ons\r\n202407,100\r\n"

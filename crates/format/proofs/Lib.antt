@@ -6,12 +6,12 @@
 --   Slices      a file that slices do not take has more lines of a kind than its slice takes (`too_many_lem`, `not_over`)
 --   Accepts     machine and language are the same (`accepts`), from Laid, Sound and Takes
 --   FileCheck   refusal 11's place is paper 01's (`judged`), and so is the file check's answer (`file_check`)
---   Answers     reading's answer is what paper 01 says (`reads`), and no other is (`one_answer`, `reading_is`); `round_trip`
+--   Answers     reading's answer is what paper 01 says (`reads`), and no other is (`one-answer`, `reading_is`); `round-trip`
 --   FileByFile  a text is files on end exactly where reading reads file after file to its end (`file_by_file`, `checked_by_reading`)
 --   CheckPlace  the file check's place is that of the file that comes back (`checked_by_refusal`), and how a
 --               program finds it file by file (`check_fault`, `check_on`, `check_last`)
 --   SavedReads  a text with CRs added before LFs is read to the same values and refused with the same numbers, and the file check
---               answers the same, every place moved (`same_reading`, `same_check`), from SavedScans and SavedValues
+--               answers the same, every place moved (`same_reading`, `same-check`), from SavedScans and SavedValues
 --   Examples    paper 01's file and its refusals, by computation
 pub mod Decimals
 pub mod Live

@@ -1,4 +1,4 @@
--- THE LAW OF THE SAVED FILE (paper 02, Q_3): with CRs added before LFs, all of them or some, reading answers the same values or the same
+-- THE LAW OF THE SAVED FILE (paper 02, Q-3): with CRs added before LFs, all of them or some, reading answers the same values or the same
 -- number, and the file check the same; every position and place has moved with the text. Assumes nothing.
 use Prim.Native.Nat.{ℕ, zero, suc, ◌≤◌}
 use mathlib.Core.Path.{◌≡◌, refl, ap, sym, ◌∙◌, subst}

@@ -20,7 +20,7 @@ abbrev pub columns : Block → ℕ
 columns b = length b.names
 
 -- THE TABLE: the names of the month line's block, and of each kind of line of which there may be any count, as in paper 01's example;
--- `ong` is paper 02's (Q_1)
+-- `ong` is paper 02's (Q-1)
 abbrev pub month : List String
 month = "month" ∷ "ons" ∷ []
 

@@ -20,7 +20,7 @@ lf = 10
 abbrev pub cr : ℕ
 cr = 13
 
--- what ends a line: LF, or "CR LF, which is now read as LF, also mixed with LF" (paper 02, Q_3)
+-- what ends a line: LF, or "CR LF, which is now read as LF, also mixed with LF" (paper 02, Q-3)
 pub data LineEnd : Type 0 where
   LF : LineEnd
   CRLF : LineEnd

@@ -1,5 +1,5 @@
 -- Paper 01's example file ("The month file"): its text as the paper prints it, each user line with a 0 for
--- `ong` (paper 02, Q_1), and its values. Assumes nothing.
+-- `ong` (paper 02, Q-1), and its values. Assumes nothing.
 use Prim.Native.String.{String, ◌++◌}
 use Rattle.std.specs.Prelude.{[], ◌∷◌, pos}
 use Rattle.format.specs.Grammar.{File}

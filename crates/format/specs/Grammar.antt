@@ -1,5 +1,5 @@
 -- The month file as it is written, with no machine (paper 01, "The month file"): values parted by commas, lines and their end, blocks, a
--- file, files on end. A line ends in LF or in CR LF, each for itself (paper 02, Q_3), so a file has many texts: one for each choice of its
+-- file, files on end. A line ends in LF or in CR LF, each for itself (paper 02, Q-3), so a file has many texts: one for each choice of its
 -- lines' ends. Assumes nothing.
 use Rattle.std.specs.Prelude.{ℕ, ◌≤◌, ◌≡◌, refl, ◌↔◌, List, [], ◌∷◌, ◌++◌, map, length, drop, get_or, ℤ}
 use Prim.Native.String.{String}

@@ -1,4 +1,4 @@
--- A file saved on an office machine (paper 02, Q_3): its text comes back with CRs added before LFs, all of them or some, and every place
+-- A file saved on an office machine (paper 02, Q-3): its text comes back with CRs added before LFs, all of them or some, and every place
 -- after one has moved. proofs/Saved_reads.antt proves that reading and the file check answer the same of both texts, but for that.
 -- Assumes nothing.
 use Rattle.std.specs.Prelude.{ℕ, zero, suc, ◌+◌, ◌≡◌, List, [], ◌∷◌, ℤ, pos, negsuc}

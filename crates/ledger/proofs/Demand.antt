@@ -95,7 +95,7 @@ pub Demand_3 :
 Demand_3 o cs h =
     demand_3 o.args.0 o.args.1.0 (held_at o) o.result (held_left o) o.learnt o.accepted (map plain cs) h (promised cs)
 
--- of months without direct charges it says what it said before there were any (paper 02, Q_1)
+-- of months without direct charges it says what it said before there were any (paper 02, Q-1)
 pub Demand_3_as_before :
     (o : Opened) (cs : List Called)
     → Chain o.result.ledger (credits_left o) cs

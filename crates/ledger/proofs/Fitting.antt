@@ -106,7 +106,7 @@ pub slice : (R : RattleType) (P : R.Denot → Type 0) (val : R.Denot → Val) �
     → Lies R ys
 slice R P val h ys s = record { values = map val ys; are = all ys s.each_fits; room = s.room }
   where
-    all : (xs : List R.Denot) → Every P xs → shadow (each R.Denot R.own xs (map val xs))
+    all : (xs : List R.Denot) → Every P xs → shadow (each R.Denot R.own_val xs (map val xs))
     all [] t = tt
     all (x ∷ xs) t = (h x t.0, all xs t.1)
 

@@ -1,22 +1,25 @@
 -- DEMAND 3 of the machine's own runs. A caller, from a memory that owns what the types of `close` ask, runs the routine of `close`, and
 -- goes on from what the run returned and left, in any way, to its next call, lending the held credits in a slice of any length. Whatever
--- the caller, each of its runs ends, and the list of them meets `Demand3`. proofs/Ready shows that there are such memories. Assumes
+-- the caller, each of its runs ends, and the list of them meets `Demand3`. proofs/Ready shows that there are such memories. That the
+-- routines are those of `open` and `close` is the kit's `Wired`: the environment has the functions' own code at their names. Assumes
 -- nothing: it is shown at every model.
 use Prim.Native.Nat.{ℕ, zero, suc}
 use mathlib.Core.Path.{◌≡◌}
 use mathlib.Core.Logic.{∥∥₁_prop, ∥∥₁_elim, ∥∥₁_map}
 use mathlib.Core.List.{List, [], ◌∷◌, map}
 use seplogic.Ra.Ura.{Ura}
+use mir.Syntax.{Callee}
 use mir.Val.{Val}
 use base.Logic.{SProp, ent, sep, ex, via, comm∗, assoc∗, assoc', mono_l, fst∗, snd∗, emp}
 use prog.Memory.{Memory}
 use prog.Machine.{done}
 use prog.Model.{Model}
-use prog.Routine.{Routine, anyName}
+use prog.Routine.{Routine, step}
+use prog.Wired.{Wired}
 use types.Logic.{Logic, sem}
 use contract.Monad.{fact}
 use contract.Lifetimes.{Lfts}
-use contract.Running.{Running, tables}
+use contract.Running.{Running, strict, tables}
 use contract.Adequate.{Satisfies, sat_weaken, sat_⇛, sat_ex∗, sat_fact}
 use denote.Signature.{Signature}
 use denote.Triple.Entry.{Args, Res}
@@ -40,6 +43,10 @@ use Rattle.ledger.proofs.Demand.{Called, Opened, held_at, held_left, credits_lef
 
 module _ {M : Type 1} {𝓤 : Ura M} (𝓛 : Logic 𝓤) (𝓜 : Model 𝓤 𝓛.H) (𝓡 : Running 𝓤 𝓛.H 𝓜) where
   open 𝓛 use {H}
+
+  -- runs of one thread that no status stops
+  abbrev pub alone : Running 𝓤 H 𝓜
+  alone = strict 𝓤 H 𝓜 𝓡
 
   front : (B E F : SProp 𝓤) → ent 𝓤 (sep 𝓤 (sep 𝓤 B E) F) (sep 𝓤 E (sep 𝓤 B F))
   front B E F = via 𝓤 (sep 𝓤 (sep 𝓤 E B) F) (mono_l 𝓤 F (comm∗ 𝓤 B E)) (assoc∗ 𝓤 E B F)
@@ -72,7 +79,7 @@ module _ {M : Type 1} {𝓤 : Ura M} (𝓛 : Logic 𝓤) (𝓜 : Model 𝓤 𝓛
       pub fuel : ℕ
       pub value : Val
       pub memory : Memory
-      pub ends : ρ.step fuel (passed 𝓛 S x) σ ≡ done (value, memory)
+      pub ends : step ρ fuel (passed 𝓛 S x) σ ≡ done (value, memory)
       pub result : Res S x.0
       pub last : Fins x.0 S.params ks x.3
       pub holds : φ x.0 x.3 result (outs x.0 S.params ks x.3 last)
@@ -85,9 +92,9 @@ module _ {M : Type 1} {𝓤 : Ura M} (𝓛 : Logic 𝓤) (𝓜 : Model 𝓤 𝓛
     abbrev At : (x : Bound 𝓛 S) → Val → Res S x.0 → SProp 𝓤
     At x v r = sep 𝓤 (Back 𝓛 S x v r) (ex 𝓤 (Said x r))
 
-    pub runs : (ρ : Routine) → Meets 𝓛 S (𝓡.run ρ) promise → (x : Bound 𝓛 S) (σ : Memory) (F : SProp 𝓤) → Ready x σ F → ∥ Ran ρ x σ F ∥₁
-    runs ρ met x σ F s =
-        ∥∥₁_elim (adequate 𝓤 H 𝓜 (tables 𝓤 H 𝓜 𝓡 (λ _. ρ)) anyName (triple_of 𝓛 S promise) met (x, tt) σ F s) ∥∥₁_prop (λ t.
+    pub runs : (k : Callee) → Meets 𝓛 S (alone.run (𝓡.env k)) promise → (x : Bound 𝓛 S) (σ : Memory) (F : SProp 𝓤) → Ready x σ F → ∥ Ran (𝓡.env k) x σ F ∥₁
+    runs k met x σ F s =
+        ∥∥₁_elim (adequate 𝓤 H 𝓜 (tables 𝓤 H 𝓜 alone 𝓡.env) ((λ s a. a), tt) k (triple_of 𝓛 S promise) met (x, tt) σ F s) ∥∥₁_prop (λ t.
         ∥∥₁_elim (sat_ex∗ 𝓤 H 𝓜 t.2 (At x t.1) F (sat_⇛ 𝓤 H 𝓜 t.2 (ex 𝓤 (At x t.1)) F t.4)) ∥∥₁_prop (λ u.
         let B : SProp 𝓤 = Back 𝓛 S x t.1 u.0 in
         ∥∥₁_elim (sat_ex∗ 𝓤 H 𝓜 t.2 (Said x u.0) (sep 𝓤 B F) (sat_weaken 𝓤 H 𝓜 t.2 (front B (ex 𝓤 (Said x u.0)) F) u.1)) ∥∥₁_prop (λ w.
@@ -115,19 +122,19 @@ module _ {M : Type 1} {𝓤 : Ura M} (𝓛 : Logic 𝓤) (𝓜 : Model 𝓤 𝓛
   OpenReady = Ready open'.signature (open'.ended).kept open_reads.Learnt
 
   abbrev pub OpenRan : Bound 𝓛 open'.signature → Memory → SProp 𝓤 → Type 1
-  OpenRan = Ran open'.signature (open'.ended).kept open_reads.Learnt open_code.routine
+  OpenRan = Ran open'.signature (open'.ended).kept open_reads.Learnt (𝓡.env open_code.name)
 
-  pub open_runs : (x : Bound 𝓛 open'.signature) (σ : Memory) (F : SProp 𝓤) → OpenReady x σ F → ∥ OpenRan x σ F ∥₁
-  open_runs = runs open'.signature (open'.ended).kept open_reads.Learnt open_code.routine (open_met.met 𝓤 𝓛 𝓜 𝓡)
+  pub open_runs : Wired 𝓡.env open_code.code → (x : Bound 𝓛 open'.signature) (σ : Memory) (F : SProp 𝓤) → OpenReady x σ F → ∥ OpenRan x σ F ∥₁
+  open_runs w = runs open'.signature (open'.ended).kept open_reads.Learnt open_code.name (open_met.met 𝓤 𝓛 𝓜 alone w)
 
   abbrev pub CloseReady : Bound 𝓛 close.signature → Memory → SProp 𝓤 → Type 1
   CloseReady = Ready close.signature (close.ended).kept Learnt
 
   abbrev pub CloseRan : Bound 𝓛 close.signature → Memory → SProp 𝓤 → Type 1
-  CloseRan = Ran close.signature (close.ended).kept Learnt close_code.routine
+  CloseRan = Ran close.signature (close.ended).kept Learnt (𝓡.env close_code.name)
 
-  pub close_runs : (x : Bound 𝓛 close.signature) (σ : Memory) (F : SProp 𝓤) → CloseReady x σ F → ∥ CloseRan x σ F ∥₁
-  close_runs = runs close.signature (close.ended).kept Learnt close_code.routine (close_met.met 𝓤 𝓛 𝓜 𝓡)
+  pub close_runs : Wired 𝓡.env close_code.code → (x : Bound 𝓛 close.signature) (σ : Memory) (F : SProp 𝓤) → CloseReady x σ F → ∥ CloseRan x σ F ∥₁
+  close_runs w = runs close.signature (close.ended).kept Learnt close_code.name (close_met.met 𝓤 𝓛 𝓜 alone w)
 
   -- ---- a list of calls
   -- a run as the call that its caller sees
@@ -163,11 +170,11 @@ module _ {M : Type 1} {𝓤 : Ura M} (𝓛 : Logic 𝓤) (𝓜 : Model 𝓤 𝓛
   chained (suc n) g credits c p = (c.1, c.2, chained n p.0.result.ledger (left_in credits p.0.last.1.0) (c.6 p.0) p.1)
 
   -- whatever the caller, each of its runs ends
-  pub plays : (n : ℕ) (g : Ledger) (credits : List ℤ) (c : Caller n g credits) → ∥ Play n g credits c ∥₁
-  plays zero g credits c = ∣ tt ∣₁
-  plays (suc n) g credits c =
-      ∥∥₁_elim (close_runs c.0 c.3 c.4 c.5) ∥∥₁_prop
-      (λ y. ∥∥₁_map (plays n y.result.ledger (left_in credits y.last.1.0) (c.6 y)) (λ p. (y, p)))
+  pub plays : Wired 𝓡.env close_code.code → (n : ℕ) (g : Ledger) (credits : List ℤ) (c : Caller n g credits) → ∥ Play n g credits c ∥₁
+  plays w zero g credits c = ∣ tt ∣₁
+  plays w (suc n) g credits c =
+      ∥∥₁_elim (close_runs w c.0 c.3 c.4 c.5) ∥∥₁_prop
+      (λ y. ∥∥₁_map (plays w n y.result.ledger (left_in credits y.last.1.0) (c.6 y)) (λ p. (y, p)))
 
   -- an opening that was run and accepted
   abbrev pub opened : (x : Bound 𝓛 open'.signature) (σ : Memory) (F : SProp 𝓤) (y : OpenRan x σ F) → y.result.answer ≡ Accepted → Opened
@@ -175,12 +182,13 @@ module _ {M : Type 1} {𝓤 : Ura M} (𝓛 : Logic 𝓤) (𝓜 : Model 𝓤 𝓛
 
   -- DEMAND 3 OF RUNS: from any accepted run of open, whatever the caller, its runs of close end, and meet demand 3
   pub demand_3_of_runs :
-      (x : Bound 𝓛 open'.signature) (σ : Memory) (F : SProp 𝓤) (y : OpenRan x σ F) (e : y.result.answer ≡ Accepted)
+      Wired 𝓡.env close_code.code
+      → (x : Bound 𝓛 open'.signature) (σ : Memory) (F : SProp 𝓤) (y : OpenRan x σ F) (e : y.result.answer ≡ Accepted)
       → let o = opened x σ F y e in
       (n : ℕ) (c : Caller n o.result.ledger (credits_left o))
       → ∥ ((p : Play n o.result.ledger (credits_left o) c)
       × Demand3 o.args.0 o.args.1.0 (held_at o) o.result.ledger (held_left o) (map plain (calls n o.result.ledger (credits_left o) c p))) ∥₁
-  demand_3_of_runs x σ F y e n c =
+  demand_3_of_runs w x σ F y e n c =
       let o = opened x σ F y e in
-      ∥∥₁_map (plays n o.result.ledger (credits_left o) c)
+      ∥∥₁_map (plays w n o.result.ledger (credits_left o) c)
       (λ p. (p, Demand_3 o (calls n o.result.ledger (credits_left o) c p) (chained n o.result.ledger (credits_left o) c p)))

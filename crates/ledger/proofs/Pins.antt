@@ -7,6 +7,7 @@ use prog.Model.{Model}
 use types.Logic.{Logic}
 use contract.Monad.{fact}
 use contract.Running.{Running}
+use prog.Wired.{Wired}
 use mathlib.Core.List.{map}
 use lib.ListN.{length}
 use denote.Triple.Spec.{Spec, Meets, exits}
@@ -39,7 +40,7 @@ module _ {M : Type 1} {𝓤 : Ura M} (𝓛 : Logic 𝓤) (𝓜 : Model 𝓤 𝓛
             fact 𝓤 (ByVerdict (opening_refusal a.0 a.1.0 (length held)) (Opened a.0 a.1.0 held r held') (NotOpened held r held')));
       }
 
-  pub open_meets : Meets 𝓛 open'.signature (𝓡.run open_code.routine) open_promise
+  pub open_meets : Wired 𝓡.env open_code.code → Meets 𝓛 open'.signature (𝓡.run (𝓡.env open_code.name)) open_promise
   open_meets = open_met.met 𝓤 𝓛 𝓜 𝓡
 
   -- close(ledger, held, line, agents, users, points, cells, work)
@@ -65,7 +66,7 @@ module _ {M : Type 1} {𝓤 : Ura M} (𝓛 : Logic 𝓤) (𝓜 : Model 𝓤 𝓛
             (NotClosed a.0 held cells work r held' cells' work')));
       }
 
-  pub close_meets : Meets 𝓛 close.signature (𝓡.run close_code.routine) close_promise
+  pub close_meets : Wired 𝓡.env close_code.code → Meets 𝓛 close.signature (𝓡.run (𝓡.env close_code.name)) close_promise
   close_meets = close_met.met 𝓤 𝓛 𝓜 𝓡
 
   -- close_lines(ledger, held, line, agents, users, points, cells, work)
@@ -91,5 +92,5 @@ module _ {M : Type 1} {𝓤 : Ura M} (𝓛 : Logic 𝓤) (𝓜 : Model 𝓤 𝓛
             (NotClosed a.0 held cells work r held' cells' work')));
       }
 
-  pub close_lines_meets : Meets 𝓛 close_lines.signature (𝓡.run close_lines_code.routine) close_lines_promise
+  pub close_lines_meets : Wired 𝓡.env close_lines_code.code → Meets 𝓛 close_lines.signature (𝓡.run (𝓡.env close_lines_code.name)) close_lines_promise
   close_lines_meets = close_lines_met.met 𝓤 𝓛 𝓜 𝓡

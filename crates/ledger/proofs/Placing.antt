@@ -9,7 +9,7 @@ use mathlib.Core.Option.{some}
 use lib.Dec.{T}
 use lib.ListN.{length}
 use seplogic.Ra.Ura.{Ura}
-use seplogic.Ra.TreeShare.{full_share}
+use base.Fraction.{full_share}
 use seplogic.Bi.Sat
 use seplogic.Bi.Sat.{Sat}
 use mir.Syntax.{Ty, ty_array, Lifetime}
@@ -17,7 +17,8 @@ use mir.Val.{Val, WT, has_ty}
 use mir.Raw.{raw}
 use base.Logic.{Sat_exists, SProp, ent, sep, ex, guard, emp, upd, id⊢, via, comm∗, assoc∗, assoc', mono_l, mono_r, emp∗, fst∗, snd∗, ex_i, ex∗}
 use base.Logic.{upd_mono, upd_frame}
-use base.Fml.{Lft, GName, Fml, feq}
+use base.Fml.{Lft, GName, Fml, Incl-refl, feq}
+use denote.Copied.{Copied}
 use prog.Memory.{Memory, alloc_m, store_m}
 use prog.Model.{Model}
 use prog.AdequacyRun.{start_mem}
@@ -38,7 +39,7 @@ use denote.Lend.{Held, lends_slice, lends_shr_slice}
 -- the elements of a slice have machine values, and there is room for so many
 pub record Lies (R : RattleType) (ys : List R.Denot) : Type 0 where
   pub values : List Val
-  pub are : shadow (each R.Denot R.own ys values)
+  pub are : shadow (each R.Denot R.own_val ys values)
   pub room : Room R (length ys)
 
 module _ {M : Type 1} {𝓤 : Ura M} (𝓛 : Logic 𝓤) (𝓜 : Model 𝓤 𝓛.H) where
@@ -165,22 +166,37 @@ module _ {M : Type 1} {𝓤 : Ura M} (𝓛 : Logic 𝓤) (𝓜 : Model 𝓤 𝓛
         x.2)
         (λ y. (x.0, r y.0, refl, y.1)))
 
+    -- to be read, for a lifetime whose token is owned: the token comes back
     pub lent_shr :
-        (ℓ : Lifetime) (κ : Lft) (σ : Memory) (F : Pr)
-        → σ ⊨ F
-        → ∥ ((σ' : Memory) × (r : Bor (List R.Denot)) × (r.now ≡ ys) × σ' ⊨ ⟦ (ShrSlice ℓ κ R).own_val r (shr_slice_vals r) ⟧ ∗ F) ∥₁
-    lent_shr ℓ κ σ F s =
-        ∥∥₁_elim (placed τ v typed.0 typed.1 σ F s) ∥∥₁_prop (λ x.
+        Copied 𝓛 R
+        → (ℓ : Lifetime) (κ : Lft) (σ : Memory) (F : Pr)
+        → σ ⊨ 𝓛.A.lft κ full_share ∗ F
+        → ∥ ((σ' : Memory)
+        × (r : Bor (List R.Denot))
+        × (r.now ≡ ys)
+        × σ' ⊨ ⟦ (ShrSlice ℓ κ R).own_val r (shr_slice_vals r) ⟧ ∗ (𝓛.A.lft κ full_share ∗ F)) ∥₁
+    lent_shr copied ℓ κ σ F s =
+        let T : Pr = 𝓛.A.lft κ full_share in
+        ∥∥₁_map (placed τ v typed.0 typed.1 σ (T ∗ F) s)
+        (λ x.
         let b = x.1 in
-        let r : GName → Bor (List R.Denot) = λ γ. record { ref_ptr = (b, 0); now = ys } in
+        let r : Bor (List R.Denot) = record { ref_ptr = (b, 0); now = ys } in
+        let cell : Pr = H.at full_share τ b 0 v in
         let all : Fml = (arr_parts (shares R) n).part full_share ys b 0 in
-        ∥∥₁_map
-        (handed (H.at full_share τ b 0 v) (λ γ. ⟦ (ShrSlice ℓ κ R).own_val (r γ) (shr_slice_vals (r γ)) ⟧) (λ γ. 𝓛.A.lent κ all)
-        (via 𝓤 ⟦ all ⟧ (apart b) (lends_shr_slice 𝓛 R ℓ κ full_share ys b 0 l.room))
-        x.0
-        F
-        x.2)
-        (λ y. (x.0, r y.0, refl, y.1)))
+        let own : Pr = ⟦ (ShrSlice ℓ κ R).own_val r (shr_slice_vals r) ⟧ in
+        let L : Pr = 𝓛.A.lent κ all in
+        let lend : ⟦ all ⟧ ∗ T ⊢ H.⇛ ((own ∗ L) ∗ T) =
+        lends_shr_slice 𝓛 R ℓ κ full_share ys b 0 l.room κ (copied.shares full_share κ) ((κ, full_share) ∷ []) (Incl-refl κ) (Incl-refl κ) in (
+          x.0,
+          r,
+          refl,
+          sat_weaken 𝓤 H 𝓜 x.0
+              (via 𝓤 ((own ∗ T) ∗ F) (mono_l 𝓤 F (mono_l 𝓤 T (fst∗ 𝓤 own L))) (assoc∗ 𝓤 own T F))
+              (sat_⇛ 𝓤 H 𝓜 x.0 ((own ∗ L) ∗ T) F
+              (sat_weaken 𝓤 H 𝓜 x.0
+              (via 𝓤 ((cell ∗ T) ∗ F) (assoc' 𝓤 cell T F) (mono_l 𝓤 F (via 𝓤 (⟦ all ⟧ ∗ T) (mono_l 𝓤 T (apart b)) lend)))
+              x.2)),
+        ))
 
   -- ---- a lifetime, and what is known without owning anything
   pub begun : (σ : Memory) (F : Pr) → σ ⊨ F → ∥ ((α : ℕ) × σ ⊨ 𝓛.A.lft (α ∷ []) full_share ∗ F) ∥₁

@@ -4,12 +4,12 @@ use Prim.Native.Nat.{ℕ, zero, suc}
 use mathlib.Core.Path.{◌≡◌, refl}
 use mathlib.Core.Logic.{∥∥₁_prop, ∥∥₁_elim, ∥∥₁_map}
 use mathlib.Core.List.{List, [], ◌∷◌}
-use seplogic.RA.Ura.{Ura}
-use seplogic.RA.TreeShare.{full_share}
+use seplogic.Ra.Ura.{Ura}
+use base.Fraction.{full_share}
 use lib.IntN.{ℤ}
 use mir.Syntax.{w64, Lifetime, named}
 use mir.Val.{Val, vint, Fits}
-use base.Logic.{SProp, sep, emp, via, comm∗, assoc', emp∗}
+use base.Logic.{SProp, ent, sep, emp, id⊢, via, comm∗, assoc∗, assoc', mono_l, mono_r, emp∗}
 use base.Fml.{Lft, Fml}
 use prog.Memory.{Memory}
 use prog.Model.{Model}
@@ -25,6 +25,7 @@ use denote.ArrayMemory.{Single}
 use denote.Builtin.{u64, i64}
 use denote.Plain.{uint_Lawful, uint_Makes}
 use denote.Signed.{sint_Lawful, sint_Makes}
+use denote.Copied.{Copied, sint_Copied, Array-Copied}
 use denote.Ref.{Bor, MutBor}
 use denote.Slice.{MutSlice, ShrSlice, shr_slice_vals, mut_slice_vals}
 use denote.Struct.Laws as LL
@@ -79,8 +80,8 @@ module _ {M : Type 1} {𝓤 : Ura M} (𝓛 : Logic 𝓤) (𝓜 : Model 𝓤 𝓛
 
   value : (R : RattleType) → Makes 𝓛 R (Is R) → (x : R.Denot) (vs : List Val) → Is R x vs → (Q K : Pr) (σ : Memory)
       → σ ⊨ Q ∗ K
-      → σ ⊨ (⟦ R.own x vs ⟧ ∗ Q) ∗ K
-  value R make x vs is Q K σ s = sat_weaken 𝓤 H 𝓜 σ (assoc' 𝓤 ⟦ R.own x vs ⟧ Q K) (known 𝓛 𝓜 ⟦ R.own x vs ⟧ (make x vs is) σ (Q ∗ K) s)
+      → σ ⊨ (⟦ R.own_val x vs ⟧ ∗ Q) ∗ K
+  value R make x vs is Q K σ s = sat_weaken 𝓤 H 𝓜 σ (assoc' 𝓤 ⟦ R.own_val x vs ⟧ Q K) (known 𝓛 𝓜 ⟦ R.own_val x vs ⟧ (make x vs is) σ (Q ∗ K) s)
 
   module _ (R : RattleType) (one : Single R.mir) (laws : Lawful 𝓛 R × Makes 𝓛 R (Is R)) {ys : List R.Denot} (l : Lies R ys)
       (ℓ : Lifetime) (κ : Lft) (Q K : Pr) (σ : Memory) (s : σ ⊨ Q ∗ K) where
@@ -89,10 +90,59 @@ module _ {M : Type 1} {𝓤 : Ura M} (𝓛 : Logic 𝓤) (𝓜 : Model 𝓤 𝓛
         ∥∥₁_map (lent_mut 𝓛 𝓜 R one laws.0 laws.1 ys l ℓ κ σ (Q ∗ K) s)
         (λ x. (x.0, x.1, x.2, sat_weaken 𝓤 H 𝓜 x.0 (assoc' 𝓤 ⟦ (MutSlice ℓ κ R).own_val x.1 (mut_slice_vals x.1) ⟧ Q K) x.3))
 
-    readable : ∥ ((σ' : Memory) × (r : Bor (List R.Denot)) × (r.now ≡ ys) × σ' ⊨ (⟦ (ShrSlice ℓ κ R).own_val r (shr_slice_vals r) ⟧ ∗ Q) ∗ K) ∥₁
+  -- ---- the token of one lifetime, taken out of all and put back
+  swap : (P Q K : Pr) → ent 𝓤 (P ∗ (Q ∗ K)) (Q ∗ (P ∗ K))
+  swap P Q K = via 𝓤 ((P ∗ Q) ∗ K) (assoc' 𝓤 P Q K) (via 𝓤 ((Q ∗ P) ∗ K) (mono_l 𝓤 K (comm∗ 𝓤 P Q)) (assoc∗ 𝓤 Q P K))
+
+  abbrev token : Lft → Pr
+  token κ = 𝓛.A.lft κ full_share
+
+  abbrev others : (n j : ℕ) → Within n j → Lfts n → Pr
+  others zero j ok κs = absurd ok
+  others (suc n) zero ok κs = Toks n κs.1
+  others (suc n) (suc j) ok κs = token κs.0 ∗ others n j ok κs.1
+
+  taken_out : (n j : ℕ) (ok : Within n j) (κs : Lfts n) → ent 𝓤 (Toks n κs) (token (lft_at n j ok κs) ∗ others n j ok κs)
+  taken_out zero j ok κs = absurd ok
+  taken_out (suc n) zero ok κs = id⊢ 𝓤 (Toks (suc n) κs)
+  taken_out (suc n) (suc j) ok κs =
+      via 𝓤 (token κs.0 ∗ (token (lft_at n j ok κs.1) ∗ others n j ok κs.1)) (mono_r 𝓤 (token κs.0) (taken_out n j ok κs.1))
+      (swap (token κs.0) (token (lft_at n j ok κs.1)) (others n j ok κs.1))
+
+  put_back : (n j : ℕ) (ok : Within n j) (κs : Lfts n) → ent 𝓤 (token (lft_at n j ok κs) ∗ others n j ok κs) (Toks n κs)
+  put_back zero j ok κs = absurd ok
+  put_back (suc n) zero ok κs = id⊢ 𝓤 (Toks (suc n) κs)
+  put_back (suc n) (suc j) ok κs =
+      via 𝓤 (token κs.0 ∗ (token (lft_at n j ok κs.1) ∗ others n j ok κs.1))
+      (swap (token (lft_at n j ok κs.1)) (token κs.0) (others n j ok κs.1))
+      (mono_r 𝓤 (token κs.0) (put_back n j ok κs.1))
+
+  -- a slice that is read, at one of the call's lifetimes, whose token it takes to be lent
+  module _ (R : RattleType) (one : Single R.mir) (laws : Lawful 𝓛 R × Makes 𝓛 R (Is R)) (copied : Copied 𝓛 R) {ys : List R.Denot} (l : Lies R ys)
+      (ℓ : Lifetime) (n j : ℕ) (ok : Within n j) (κs : Lfts n) (Q : Pr) (σ : Memory) (s : σ ⊨ Q ∗ Toks n κs) where
+    readable :
+        ∥ ((σ' : Memory)
+        × (r : Bor (List R.Denot))
+        × (r.now ≡ ys)
+        × σ' ⊨ (⟦ (ShrSlice ℓ (lft_at n j ok κs) R).own_val r (shr_slice_vals r) ⟧ ∗ Q) ∗ Toks n κs) ∥₁
     readable =
-        ∥∥₁_map (lent_shr 𝓛 𝓜 R one laws.0 laws.1 ys l ℓ κ σ (Q ∗ K) s)
-        (λ x. (x.0, x.1, x.2, sat_weaken 𝓤 H 𝓜 x.0 (assoc' 𝓤 ⟦ (ShrSlice ℓ κ R).own_val x.1 (shr_slice_vals x.1) ⟧ Q K) x.3))
+        let κ = lft_at n j ok κs in
+        let T : Pr = token κ in
+        let O : Pr = others n j ok κs in
+        let before : σ ⊨ T ∗ (Q ∗ O) =
+        sat_weaken 𝓤 H 𝓜 σ (via 𝓤 (Q ∗ (T ∗ O)) (mono_r 𝓤 Q (taken_out n j ok κs)) (swap Q T O)) s in
+        ∥∥₁_map (lent_shr 𝓛 𝓜 R one laws.0 laws.1 ys l copied ℓ κ σ (Q ∗ O) before)
+        (λ x.
+        let own : Pr = ⟦ (ShrSlice ℓ κ R).own_val x.1 (shr_slice_vals x.1) ⟧ in (
+          x.0,
+          x.1,
+          x.2,
+          sat_weaken 𝓤 H 𝓜 x.0
+              (via 𝓤 (own ∗ (Q ∗ Toks n κs))
+              (mono_r 𝓤 own (via 𝓤 (Q ∗ (T ∗ O)) (swap T Q O) (mono_r 𝓤 Q (put_back n j ok κs))))
+              (assoc' 𝓤 own Q (Toks n κs)))
+              x.3,
+        ))
 
   -- all of them: what a call asks that asks nothing else, beside nothing
   entry : (Q K : Pr) (σ : Memory) → σ ⊨ Q ∗ K → σ ⊨ ((K ∗ Q) ∗ emp 𝓤) ∗ emp 𝓤
@@ -112,6 +162,9 @@ module _ {M : Type 1} {𝓤 : Ura M} (𝓛 : Logic 𝓤) (𝓜 : Model 𝓤 𝓛
 
   abbrev row : (n : ℕ) → Lawful 𝓛 (Array i64 n) × Makes 𝓛 (Array i64 n) (Is (Array i64 n))
   row n = (Array-Lawful 𝓛 i64 sint.0 n, Array-Makes 𝓛 i64 sint.1 n)
+
+  row_copied : (n : ℕ) → Copied 𝓛 (Array i64 n)
+  row_copied n = Array-Copied 𝓛 i64 (sint_Copied 𝓛 w64) tt n
 
   abbrev point : Lawful 𝓛 P.the_row × Makes 𝓛 P.the_row (Is P.the_row)
   point = (LL.lawful P.the_type P'.the_laws 𝓛, LL.makes P.the_type P'.the_plain 𝓛)
@@ -162,21 +215,21 @@ module _ {M : Type 1} {𝓤 : Ura M} (𝓛 : Logic 𝓤) (𝓜 : Model 𝓤 𝓛
       let K : Pr = Toks 6 κs in
       let s₉ : start_mem [] [] ⊨ emp 𝓤 ∗ K = none K (start_mem [] []) k.1 in
       ∥∥₁_elim (writable u64 tt uint (counts c.work f.work) (named 5) (κ 5 tt) (emp 𝓤) K (start_mem [] []) s₉) ∥∥₁_prop (λ x₈.
-      let Q₈ : Pr = ⟦ (MutSlice (named 5) (κ 5 tt) u64).own_val x₈.1 (shr_slice_vals x₈.1) ⟧ ∗ emp 𝓤 in
+      let Q₈ : Pr = ⟦ (MutSlice (named 5) (κ 5 tt) u64).own_val x₈.1 (mut_slice_vals x₈.1) ⟧ ∗ emp 𝓤 in
       ∥∥₁_elim (writable i64 tt sint (words c.cells f.cells) (named 4) (κ 4 tt) Q₈ K x₈.0 x₈.3) ∥∥₁_prop (λ x₇.
-      let Q₇ : Pr = ⟦ (MutSlice (named 4) (κ 4 tt) i64).own_val x₇.1 (shr_slice_vals x₇.1) ⟧ ∗ Q₈ in
-      ∥∥₁_elim (readable P.the_row tt point (points c.points f.points) (named 3) (κ 3 tt) Q₇ K x₇.0 x₇.3) ∥∥₁_prop (λ x₆.
+      let Q₇ : Pr = ⟦ (MutSlice (named 4) (κ 4 tt) i64).own_val x₇.1 (mut_slice_vals x₇.1) ⟧ ∗ Q₈ in
+      ∥∥₁_elim (readable P.the_row tt point (LL.copied P.the_type P'.the_copy 𝓛) (points c.points f.points) (named 3) 6 3 tt κs Q₇ x₇.0 x₇.3) ∥∥₁_prop (λ x₆.
       let Q₆ : Pr = ⟦ (ShrSlice (named 3) (κ 3 tt) P.the_row).own_val x₆.1 (shr_slice_vals x₆.1) ⟧ ∗ Q₇ in
-      ∥∥₁_elim (readable Ru tt (row user_width) (lines user_width c.users f.users) (named 2) (κ 2 tt) Q₆ K x₆.0 x₆.3) ∥∥₁_prop (λ x₅.
+      ∥∥₁_elim (readable Ru tt (row user_width) (row_copied user_width) (lines user_width c.users f.users) (named 2) 6 2 tt κs Q₆ x₆.0 x₆.3) ∥∥₁_prop (λ x₅.
       let Q₅ : Pr = ⟦ (ShrSlice (named 2) (κ 2 tt) Ru).own_val x₅.1 (shr_slice_vals x₅.1) ⟧ ∗ Q₆ in
-      ∥∥₁_elim (readable Ra tt (row agent_width) (lines agent_width c.agents f.agents) (named 1) (κ 1 tt) Q₅ K x₅.0 x₅.3) ∥∥₁_prop (λ x₄.
+      ∥∥₁_elim (readable Ra tt (row agent_width) (row_copied agent_width) (lines agent_width c.agents f.agents) (named 1) 6 1 tt κs Q₅ x₅.0 x₅.3) ∥∥₁_prop (λ x₄.
       let Q₄ : Pr = ⟦ (ShrSlice (named 1) (κ 1 tt) Ra).own_val x₄.1 (shr_slice_vals x₄.1) ⟧ ∗ Q₅ in
       let line = LL.vals L.the_type L'.the_laws c.line in
       let Q₃ : Pr = ⟦ (L.the_row).own_val c.line line ⟧ ∗ Q₄ in
       let s₃ : x₄.0 ⊨ Q₃ ∗ K =
       value L.the_row (LL.makes L.the_type L'.the_plain 𝓛) c.line line (month_line_is c.line f.line) Q₄ K x₄.0 x₄.3 in
       ∥∥₁_map (writable i64 tt sint (words c.held f.held) (named 0) (κ 0 tt) Q₃ K x₄.0 s₃) (λ x₂.
-      let Q₂ : Pr = ⟦ (MutSlice (named 0) (κ 0 tt) i64).own_val x₂.1 (shr_slice_vals x₂.1) ⟧ ∗ Q₃ in
+      let Q₂ : Pr = ⟦ (MutSlice (named 0) (κ 0 tt) i64).own_val x₂.1 (mut_slice_vals x₂.1) ⟧ ∗ Q₃ in
       let ledger = LL.vals G.the_type G'.the_laws c.ledger in
       let Q₁ : Pr = ⟦ (G.the_row).own_val c.ledger ledger ⟧ ∗ Q₂ in
       let s₁ : x₂.0 ⊨ Q₁ ∗ K =
@@ -190,8 +243,8 @@ module _ {M : Type 1} {𝓤 : Ura M} (𝓛 : Logic 𝓤) (𝓜 : Model 𝓤 𝓛
           (
             ledger,
             (
-              shr_slice_vals x₂.1,
-              (line, (shr_slice_vals x₄.1, (shr_slice_vals x₅.1, (shr_slice_vals x₆.1, (shr_slice_vals x₇.1, (shr_slice_vals x₈.1, tt)))))),
+              mut_slice_vals x₂.1,
+              (line, (shr_slice_vals x₄.1, (shr_slice_vals x₅.1, (shr_slice_vals x₆.1, (mut_slice_vals x₇.1, (mut_slice_vals x₈.1, tt)))))),
             ),
           ),
         );

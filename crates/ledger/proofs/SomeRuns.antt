@@ -11,7 +11,7 @@ use lib.Dec.{T, eqb, ltb, ltb→lt}
 use lib.Ieee.Bits.{is_true}
 use types.Logic.{Logic}
 use borrow.Author.Tests.{eqb-true}
-use seplogic.RA.Ura.{Ura}
+use seplogic.Ra.Ura.{Ura}
 use lib.IntN.{ℤ, pos}
 use lib.ListN.{length, take, drop, get_or, replicate, length-map, length-replicate}
 use lib.Seq.{take_at}
@@ -21,6 +21,7 @@ use mir.Facts.{Fits-lit, sfits_lit}
 use base.Logic.{emp}
 use prog.Model.{Model}
 use contract.Running.{Running}
+use prog.Wired.{Wired}
 use denote.RattleType.{RattleType}
 use denote.Memory.{mem}
 use denote.Builtin.{u64, i64}
@@ -35,6 +36,7 @@ use Rattle.rules.specs.Lines.{point_of}
 use Rattle.rules.specs.July.{july_line, july_agents, july_users, july_points, lines, points}
 use Rattle.rules.specs.contracts.Point as P
 use Rattle.records.proofs.Widths.{agent_width, user_width, Ra, Ru}
+use Rattle.ledger.proofs.open.Symbol as open_code
 use Rattle.ledger.proofs.Demand.{credits_left}
 use Rattle.ledger.proofs.Machine.{OpenRan, open_runs, opened, Caller}
 use Rattle.ledger.proofs.Fitting.{Every, Word, Line, PointFits, Slice, Closing, handed, ClosingFits}
@@ -76,15 +78,16 @@ module _ {M : Type 1} {𝓤 : Ura M} (𝓛 : Logic 𝓤) (𝓜 : Model 𝓤 𝓛
       }
 
   pub opening :
-      (users agents : ℕ) (held : List ℤ)
+      Wired 𝓡.env open_code.code
+      → (users agents : ℕ) (held : List ℤ)
       → opening_refusal users agents (length held) ≡ accepted
       → Fits w64 users
       → Fits w64 agents
       → Slice i64 Word held
       → ∥ OpenedFrom users agents held ∥₁
-  opening users agents held e fu fa fh =
+  opening w users agents held e fu fa fh =
       ∥∥₁_elim (open_ready 𝓛 𝓜 𝓡 users agents held fu fa fh) ∥∥₁_prop
-      (λ f. ∥∥₁_map (open_runs 𝓛 𝓜 𝓡 f.bound f.memory (emp 𝓤) f.ready) (accepts users agents held e f))
+      (λ f. ∥∥₁_map (open_runs 𝓛 𝓜 𝓡 w f.bound f.memory (emp 𝓤) f.ready) (accepts users agents held e f))
 
   -- ---- and a caller after it, that makes this closing
   module _ (users agents : ℕ) (held : List ℤ) (c : Closing) where
@@ -96,7 +99,8 @@ module _ {M : Type 1} {𝓤 : Ura M} (𝓛 : Logic 𝓤) (𝓜 : Model 𝓤 𝓛
       pub same : handed caller.0.0 caller.0.3 ≡ c
 
     pub made :
-        opening_refusal users agents (length held) ≡ accepted
+        Wired 𝓡.env open_code.code
+        → opening_refusal users agents (length held) ≡ accepted
         → Fits w64 users
         → Fits w64 agents
         → Slice i64 Word held
@@ -104,8 +108,8 @@ module _ {M : Type 1} {𝓤 : Ura M} (𝓛 : Logic 𝓤) (𝓜 : Model 𝓤 𝓛
         → c.ledger ≡ record { users = users; agents = agents; month = pos 0 }
         → Lent (replicate users (pos 0)) c.held
         → ∥ Made ∥₁
-    made e fu fa fh f g l =
-        ∥∥₁_elim (opening users agents held e fu fa fh) ∥∥₁_prop (λ o.
+    made w e fu fa fh f g l =
+        ∥∥₁_elim (opening w users agents held e fu fa fh) ∥∥₁_prop (λ o.
         ∥∥₁_map (close_ready 𝓛 𝓜 𝓡 c f) (λ x.
         record {
           opening = o;
@@ -199,10 +203,11 @@ july_fits =
 
 pub july_made :
     {M : Type 1} {𝓤 : Ura M} (𝓛 : Logic 𝓤) (𝓜 : Model 𝓤 𝓛.H) (𝓡 : Running 𝓤 𝓛.H 𝓜)
+    → Wired 𝓡.env open_code.code
     → ∥ Made 𝓛 𝓜 𝓡 2 2 (map pos (5 ∷ 6 ∷ 77 ∷ [])) july ∥₁
 unfolding opening_refusal
-july_made 𝓛 𝓜 𝓡 =
-    made 𝓛 𝓜 𝓡 2 2 (map pos (5 ∷ 6 ∷ 77 ∷ [])) july refl (Fits-lit tt) (Fits-lit tt)
+july_made 𝓛 𝓜 𝓡 w =
+    made 𝓛 𝓜 𝓡 2 2 (map pos (5 ∷ 6 ∷ 77 ∷ [])) july w refl (Fits-lit tt) (Fits-lit tt)
     (record { each_fits = fitting (5 ∷ 6 ∷ 77 ∷ []) tt; room = room i64 3 tt tt })
     july_fits
     refl

@@ -43,7 +43,7 @@ module _ (t : List ℕ) (i c : ℕ) (f : List Item) where
   pub name_end : length t ≤ i → verdict t (expects c f) i ≡ Faulty i
   name_end h = rw (drop_of_length-le t h) (none_scan c f i)
 
--- names from the k_th byte on
+-- names from the k-th byte on
 module _ (t names : List ℕ) (i k : ℕ) (l : k < length names) (f : List Item) where
   pub names_on :
       i < length t

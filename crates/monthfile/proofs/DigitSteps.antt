@@ -1,4 +1,4 @@
--- Digits and signs read at a place of a text (format's `readDigits`, `readValue`). Assumes nothing.
+-- Digits and signs read at a place of a text (format's `read_digits`, `read_value`). Assumes nothing.
 use Prim.Native.Nat.{ℕ, zero, suc, ◌+◌, ◌-◌, ◌*◌, ◌^◌, ◌≤◌, ◌<◌}
 use mathlib.Core.Path.{◌≡◌, refl, ap, sym, ◌∙◌, subst}
 use mathlib.Core.Bool.{true, false}
@@ -68,7 +68,8 @@ module _ (t : List ℕ) (i n j k : ℕ) (s : SoFar t i n j k) where
     pub no_digit : is_digit (get_or t j 0) ≡ false → GotAt t (read_digits 18 0 (drop i t)) n j
     no_digit e =
         over (omega arith)
-        (subst (λ (u : List ℕ). read_digits (18 - k) n u ≡ record { got = n; left = u }) (sym (here t j h)) (other n (18 - k) (get_or t j 0) (drop (j + 1) t) e))
+        (subst (λ (u : List ℕ). read_digits (18 - k) n u ≡ record { got = n; left = u }) (sym (here t j h))
+        (other n (18 - k) (get_or t j 0) (drop (j + 1) t) e))
 
     pub a_digit : k < 18 → (b : ℕ) → b ≡ get_or t j 0 → is_digit b ≡ true → SoFar t i (n * 10 + (b - 48)) (j + 1) (k + 1)
     a_digit l b w e =

@@ -1,4 +1,4 @@
--- A file's blocks one after the other (format's `readBlocks`, `fileOf`), from the parts in which it is read. Assumes nothing.
+-- A file's blocks one after the other (format's `read_blocks`, `file_of`), from the parts in which it is read. Assumes nothing.
 use Prim.Native.Nat.{ℕ, ◌≤◌, ◌<◌}
 use Prim.Native.String.{String}
 use mathlib.Core.Path.{◌≡◌, refl, ap, sym, ◌∙◌, subst}

@@ -1,6 +1,6 @@
--- What a caller learns from the checked contracts of `read_at` and `read`, which take a slice of records and are walked: the kit's own
--- reading of the generated clauses (records' `LearntBy`). `read_at_tells` and `read_tells`: it is neither more nor less than the contract.
--- Of `read_lines` and `file_check` it is generated (`Reads.Learnt`). Assumes nothing.
+-- What a caller learns from the checked contracts of `read_at` and `read`, which take a slice of records: the kit's own reading of the
+-- generated clauses (records' `LearntBy`). `read_at_tells` and `read_tells`: it is neither more nor less than the contract. Of `read_lines`
+-- and `file_check` it is taken as generated (`Reads.Learnt`). Assumes nothing.
 use mathlib.Core.Path.{refl}
 use base.Logic.{id⊢}
 use contract.Lifetimes.{Lfts}
@@ -13,10 +13,10 @@ use Rattle.monthfile.specs.contracts.reader.read as read
 
 -- ---- read_at
 abbrev pub read_at_required : (κs : Lfts (read_at.signature).lifetimes) → Args read_at.signature κs → (w : World) → Pr w
-read_at_required κs a w = (read_at.clauses w.𝓛 w.𝓜.mem w.𝓡.run κs a).requires tt
+read_at_required κs a w = (read_at.clauses w.𝓛 w.𝓜.mem w.𝓡.returns κs a).requires tt
 
 abbrev pub read_at_ensured : Ensures read_at.ended
-read_at_ensured κs a r e w = (read_at.clauses w.𝓛 w.𝓜.mem w.𝓡.run κs a).ensures tt r e
+read_at_ensured κs a r e w = (read_at.clauses w.𝓛 w.𝓜.mem w.𝓡.returns κs a).ensures tt r e
 
 abbrev pub read_at_reading : Reading read_at.ended read_at_ensured
 read_at_reading κs a r e = all_models (read_at_ensured κs a r e) (λ w. r_last _) (λ w. refl) (λ w. refl) (λ w. refl)
@@ -29,10 +29,10 @@ read_at_tells = record { follows = λ κs a r e w. id⊢ w.𝓤 (read_at_ensured
 
 -- ---- read
 abbrev pub read_required : (κs : Lfts (read.signature).lifetimes) → Args read.signature κs → (w : World) → Pr w
-read_required κs a w = (read.clauses w.𝓛 w.𝓜.mem w.𝓡.run κs a).requires tt
+read_required κs a w = (read.clauses w.𝓛 w.𝓜.mem w.𝓡.returns κs a).requires tt
 
 abbrev pub read_ensured : Ensures read.ended
-read_ensured κs a r e w = (read.clauses w.𝓛 w.𝓜.mem w.𝓡.run κs a).ensures tt r e
+read_ensured κs a r e w = (read.clauses w.𝓛 w.𝓜.mem w.𝓡.returns κs a).ensures tt r e
 
 abbrev pub read_reading : Reading read.ended read_ensured
 read_reading κs a r e = all_models (read_ensured κs a r e) (λ w. r_last _) (λ w. refl) (λ w. refl) (λ w. refl)

@@ -10,11 +10,9 @@
 --   FileSteps   a file's blocks up to its points
 --   PointSteps  points into their slice
 --   WholeFile   all of it is format's reading (`whole_read`)
--- What the walks by hand share:
---   Walks       locals by their numbers, slices lent on, calls
 -- What a caller has of the calls:
 --   Pins          their contracts, written out
---   Learnt        what the contracts of the walked ones tell
+--   Learnt        what the contracts of the two with a slice of records tell
 --   Promised      what `Reads` promises is demand 1
 --   Demand1       DEMAND 1 of reading and of the file check, over what a caller learns
 --   Lent          a promise, were the call lent something else that is the same
@@ -30,7 +28,6 @@ pub mod ReadSteps
 pub mod FileSteps
 pub mod PointSteps
 pub mod WholeFile
-pub mod Walks
 pub mod Pins
 pub mod Learnt
 pub mod Promised

@@ -1,5 +1,5 @@
 -- The contracts of the four calls of the month file, written out, and that the functions' own routines meet them: no caller has to show
--- anything first, and what a caller gets goes by format's `reading` and `checkOf` alone, part by part. A contract in src/ that says less
+-- anything first, and what a caller gets goes by format's `reading` and `check_of` alone, part by part. A contract in src/ that says less
 -- is refused here, and so is a definition of specs/Reads that does. Assumes nothing: it is shown at every model.
 use mathlib.Core.Path.{◌≡◌, refl, ap, ◌∙◌}
 use Prim.Native.Nat.{ℕ}
@@ -12,6 +12,7 @@ use contract.Fact.{fact_mono}
 use contract.Lifetimes.{Lfts}
 use contract.Monad.{fact}
 use contract.Running.{Running}
+use prog.Wired.{Wired}
 use sound.Laws.{fm→mono}
 use denote.Triple.Clauses.{AtExit}
 use denote.Triple.Entry.{Args, Res}
@@ -134,7 +135,7 @@ module _ {M : Type 1} {𝓤 : Ura M} (𝓛 : Logic 𝓤) (𝓜 : Model 𝓤 𝓛
             exits 𝓛 file_check.signature (file_check.ended).kept κs a (λ e. fact 𝓤 (file_check_tells κs a r));
       }
 
-  pub file_check_meets : Meets 𝓛 file_check.signature (𝓡.run file_check_code.routine) file_check_promise
+  pub file_check_meets : Wired 𝓡.env file_check_code.code → Meets 𝓛 file_check.signature (𝓡.run (𝓡.env file_check_code.name)) file_check_promise
   file_check_meets = file_check_met.met 𝓤 𝓛 𝓜 𝓡
 
   abbrev pub read_lines_promise : Spec 𝓤 read_lines.signature
@@ -145,11 +146,11 @@ module _ {M : Type 1} {𝓤 : Ura M} (𝓛 : Logic 𝓤) (𝓜 : Model 𝓤 𝓛
         ensures = λ g r. exits 𝓛 read_lines.signature (read_lines.ended).kept κs a (λ e. fact 𝓤 (read_lines_tells κs a r e));
       }
 
-  pub read_lines_meets : Meets 𝓛 read_lines.signature (𝓡.run read_lines_code.routine) read_lines_promise
-  read_lines_meets =
-      weaken 𝓛 read_lines.ended (read_lines.clauses 𝓛 𝓜.mem 𝓡.run) (λ κs a g r e. fact 𝓤 (read_lines_tells κs a r e))
+  pub read_lines_meets : Wired 𝓡.env read_lines_code.code → Meets 𝓛 read_lines.signature (𝓡.run (𝓡.env read_lines_code.name)) read_lines_promise
+  read_lines_meets wired =
+      weaken 𝓛 read_lines.ended (read_lines.clauses 𝓛 𝓜.mem 𝓡.returns) (λ κs a g r e. fact 𝓤 (read_lines_tells κs a r e))
       (λ κs a g r ws. fact_mono 𝓤 _ _ (comes _ _ _ _ _ _ _ _ _))
-      (𝓡.run read_lines_code.routine) (λ vs. fm→mono 𝓤 _ (run_framed 𝓤 H 𝓜 𝓡 read_lines_code.routine vs)) (read_lines_met.met 𝓤 𝓛 𝓜 𝓡)
+      (𝓡.run (𝓡.env read_lines_code.name)) (λ vs. fm→mono 𝓤 _ (run_framed 𝓤 H 𝓜 𝓡 (𝓡.env read_lines_code.name) vs)) (read_lines_met.met 𝓤 𝓛 𝓜 𝓡 wired)
 
   abbrev pub read_at_promise : Spec 𝓤 read_at.signature
   read_at_promise κs a =
@@ -159,11 +160,11 @@ module _ {M : Type 1} {𝓤 : Ura M} (𝓛 : Logic 𝓤) (𝓜 : Model 𝓤 𝓛
         ensures = λ g r. exits 𝓛 read_at.signature (read_at.ended).kept κs a (λ e. fact 𝓤 (read_at_tells κs a r e));
       }
 
-  pub read_at_meets : Meets 𝓛 read_at.signature (𝓡.run read_at_code.routine) read_at_promise
-  read_at_meets =
-      weaken 𝓛 read_at.ended (read_at.clauses 𝓛 𝓜.mem 𝓡.run) (λ κs a g r e. fact 𝓤 (read_at_tells κs a r e))
+  pub read_at_meets : Wired 𝓡.env read_at_code.code → Meets 𝓛 read_at.signature (𝓡.run (𝓡.env read_at_code.name)) read_at_promise
+  read_at_meets wired =
+      weaken 𝓛 read_at.ended (read_at.clauses 𝓛 𝓜.mem 𝓡.returns) (λ κs a g r e. fact 𝓤 (read_at_tells κs a r e))
       (λ κs a g r ws. fact_mono 𝓤 _ _ (comes _ _ _ _ _ _ _ _ _))
-      (𝓡.run read_at_code.routine) (λ vs. fm→mono 𝓤 _ (run_framed 𝓤 H 𝓜 𝓡 read_at_code.routine vs)) (read_at_met.met 𝓤 𝓛 𝓜 𝓡)
+      (𝓡.run (𝓡.env read_at_code.name)) (λ vs. fm→mono 𝓤 _ (run_framed 𝓤 H 𝓜 𝓡 (𝓡.env read_at_code.name) vs)) (read_at_met.met 𝓤 𝓛 𝓜 𝓡 wired)
 
   abbrev pub read_promise : Spec 𝓤 read.signature
   read_promise κs a =
@@ -173,8 +174,8 @@ module _ {M : Type 1} {𝓤 : Ura M} (𝓛 : Logic 𝓤) (𝓜 : Model 𝓤 𝓛
         ensures = λ g r. exits 𝓛 read.signature (read.ended).kept κs a (λ e. fact 𝓤 (read_tells κs a r e));
       }
 
-  pub read_meets : Meets 𝓛 read.signature (𝓡.run read_code.routine) read_promise
-  read_meets =
-      weaken 𝓛 read.ended (read.clauses 𝓛 𝓜.mem 𝓡.run) (λ κs a g r e. fact 𝓤 (read_tells κs a r e))
+  pub read_meets : Wired 𝓡.env read_code.code → Meets 𝓛 read.signature (𝓡.run (𝓡.env read_code.name)) read_promise
+  read_meets wired =
+      weaken 𝓛 read.ended (read.clauses 𝓛 𝓜.mem 𝓡.returns) (λ κs a g r e. fact 𝓤 (read_tells κs a r e))
       (λ κs a g r ws. fact_mono 𝓤 _ _ (λ l. (comes _ _ _ _ _ _ _ _ _ l.0, l.1.0, moved _ _ _ _ _ _ _ _ _ l.0 _ _ l.1.1)))
-      (𝓡.run read_code.routine) (λ vs. fm→mono 𝓤 _ (run_framed 𝓤 H 𝓜 𝓡 read_code.routine vs)) (read_met.met 𝓤 𝓛 𝓜 𝓡)
+      (𝓡.run (𝓡.env read_code.name)) (λ vs. fm→mono 𝓤 _ (run_framed 𝓤 H 𝓜 𝓡 (𝓡.env read_code.name) vs)) (read_met.met 𝓤 𝓛 𝓜 𝓡 wired)

@@ -1,4 +1,4 @@
--- Values and lines read one after the other into a row or a slice (format's `readLine`, `readLines`). Assumes nothing.
+-- Values and lines read one after the other into a row or a slice (format's `read_line`, `read_lines`). Assumes nothing.
 use Prim.Native.Nat.{ℕ, zero, suc, ◌+◌, ◌-◌, ◌≤◌, ◌<◌}
 use mathlib.Core.Path.{◌≡◌, refl, ap, sym, ◌∙◌}
 use mathlib.Core.Bool.{true, false}

@@ -1,4 +1,4 @@
--- THE LAW OF THE SAVED FILE (paper 02, Q_3), over what a caller learns of the file check and of each reading: with CRs added before LFs a
+-- THE LAW OF THE SAVED FILE (paper 02, Q-3), over what a caller learns of the file check and of each reading: with CRs added before LFs a
 -- text gives the same values and the same verdict, every place moved. Assumes nothing.
 use mathlib.Core.Path.{◌≡◌, refl, ap, sym, ◌∙◌, subst}
 use Prim.Native.Nat.{ℕ, ◌≤◌}

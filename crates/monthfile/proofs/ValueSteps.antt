@@ -124,7 +124,8 @@ module _ (t : List ℕ) (i j : ℕ) (b : Behind t i j) where
       let n : j - i + 1 + 1 ≡ j + 1 - i + 1 = omega arith in
       b c f ∙ digit_on t c f j h (j - i + 1) (omega arith) e ∙ ap (λ (n : ℕ). verdict t (value (digits n) c f) (j + 1)) n
 
-  pub behind_over : j < length t → is_digit (get_or t j 0) ≡ false → (c : ℕ) (f : List Item) → verdict t (value (digits 1) c f) i ≡ verdict t (value nought c f) j
+  pub behind_over : j < length t → is_digit (get_or t j 0) ≡ false → (c : ℕ) (f : List Item)
+      → verdict t (value (digits 1) c f) i ≡ verdict t (value nought c f) j
   behind_over h e c f = b c f ∙ digits_over t c f j h (j - i + 1) e
 
   pub behind_all : (j < length t → j ≡ i + 17) → (c : ℕ) (f : List Item) → verdict t (value (digits 1) c f) i ≡ verdict t (value nought c f) j

@@ -1,4 +1,4 @@
--- THE LAW OF THE SAVED FILE (paper 02, Q_3) of two calls: one reads a text, the other the same text with CRs added before LFs. Both answer
+-- THE LAW OF THE SAVED FILE (paper 02, Q-3) of two calls: one reads a text, the other the same text with CRs added before LFs. Both answer
 -- and write the same, but that every position and place has moved with the text (format's `Saved`, `moved`). Assumes nothing.
 use Rattle.std.specs.Prelude.{◌≡◌, List, ℕ}
 use Rattle.format.specs.Saved.{Saved, moved}

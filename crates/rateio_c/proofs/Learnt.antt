@@ -43,7 +43,7 @@ pub share_learnt : (κs : Lfts 0) (a : Args share.signature κs) (r : Res share.
     → share_reads.Learnt κs a r (at_exit share.ended κs a last) → SeenShare a.0 a.1.0 a.1.1.0 a.1.1.1.0 r
 share_learnt κs a r last l = subst (λ (x : ℤ). SeenShare a.0 a.1.0 a.1.1.0 a.1.1.1.0 x) (sym l) (seen _ _ _ _)
 
--- SISTER LINES (paper 02, Q_13), of what the share answers: neighbours receive together what one line of both receives, a weight of 0
+-- SISTER LINES (paper 02, Q-13), of what the share answers: neighbours receive together what one line of both receives, a weight of 0
 -- receives 0
 module _ {P b t W : ℤ} (p : AmountWithin P) (w : TotalWithin W) (first : SumsWithin b t W) where
   pub neighbours_learnt : {u x y z : ℤ} → SumsWithin t u W → SeenShare P b t W x → SeenShare P t u W y → SeenShare P b u W z → x +ℤ y ≡ z
@@ -61,7 +61,7 @@ pub check_learnt : (κs : Lfts 1) (a : Args check.signature κs) (r : Res check.
     → check_reads.Learnt κs a r (at_exit check.ended κs a last) → Checked a.0.now r
 check_learnt κs a r last l = subst (λ (x : ℤ). Checked a.0.now x) (sym l) (file_check a.0.now)
 
--- THE LAW OF THE SAVED FILE (paper 02, Q_3) of two calls: with CRs added before LFs the same −1, or the place moved
+-- THE LAW OF THE SAVED FILE (paper 02, Q-3) of two calls: with CRs added before LFs the same −1, or the place moved
 pub check_saved :
     (κs : Lfts 1) (a : Args check.signature κs) (r : Res check.signature κs) (last : Lasts check.ended κs a)
     (κs' : Lfts 1) (b : Args check.signature κs') (s : Res check.signature κs') (last' : Lasts check.ended κs' b)

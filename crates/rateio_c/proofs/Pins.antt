@@ -7,6 +7,7 @@ use prog.Model.{Model}
 use types.Logic.{Logic}
 use contract.Monad.{fact}
 use contract.Running.{Running}
+use prog.Wired.{Wired}
 use denote.Triple.Spec.{Spec, Meets, exits}
 use mathlib.Core.Path.{◌≡◌}
 use Rattle.share.specs.Answer.{sharing, seen_by_c}
@@ -30,7 +31,7 @@ module _ {M : Type 1} {𝓤 : Ura M} (𝓛 : Logic 𝓤) (𝓜 : Model 𝓤 𝓛
             (λ e. fact 𝓤 (r ≡ seen_by_c (sharing a.0 a.1.0 a.1.1.0 a.1.1.1.0)));
       }
 
-  pub share_meets : Meets 𝓛 share.signature (𝓡.run share_code.routine) share_promise
+  pub share_meets : Wired 𝓡.env share_code.code → Meets 𝓛 share.signature (𝓡.run (𝓡.env share_code.name)) share_promise
   share_meets = share_met.met 𝓤 𝓛 𝓜 𝓡
 
   -- rateio_check(text)
@@ -42,5 +43,5 @@ module _ {M : Type 1} {𝓤 : Ura M} (𝓛 : Logic 𝓤) (𝓜 : Model 𝓤 𝓛
         ensures = λ g r. exits 𝓛 check.signature (check.ended).kept κs a (λ e. fact 𝓤 (r ≡ check_of a.0.now));
       }
 
-  pub check_meets : Meets 𝓛 check.signature (𝓡.run check_code.routine) check_promise
+  pub check_meets : Wired 𝓡.env check_code.code → Meets 𝓛 check.signature (𝓡.run (𝓡.env check_code.name)) check_promise
   check_meets = check_met.met 𝓤 𝓛 𝓜 𝓡

@@ -1,6 +1,6 @@
--- What a caller learns from a checked contract, as a plain statement. For a function that the borrow checker covers this is generated
--- (`Reads.Learnt`); for one that is walked by hand it is made here in the same way: the kit's own reading of the generated `clauses`, with
--- no copy of the contract in between. Assumes nothing.
+-- What a caller learns from a checked contract, as a plain statement, and that it is neither more nor less than the contract. Such a
+-- statement is generated too (`Reads.Learnt`); here it is made in the same way: the kit's own reading of the generated `clauses`, with no
+-- copy of the contract in between. Assumes nothing.
 use mathlib.Core.Logic.{∥∥₁_map}
 use base.Logic.{ent, emp, via}
 use contract.Monad.{fact}

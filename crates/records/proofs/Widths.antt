@@ -1,4 +1,4 @@
--- How many values an agent line and a user line have, and their types, as the walks by hand spell them.
+-- How many values an agent line and a user line have, and their types, as the theorems about runs spell them.
 use Prim.Native.Nat.{ℕ}
 use denote.RattleType.{RattleType}
 use denote.Array.{Array}

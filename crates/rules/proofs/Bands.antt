@@ -1,4 +1,4 @@
--- The amounts of a point beside those with both bands rounded once, as they were before Q_4: at most a cent off, a user's sums at most a
+-- The amounts of a point beside those with both bands rounded once, as they were before Q-4: at most a cent off, a user's sums at most a
 -- cent a point; either way occurs; of one band alone, as a generator's, nothing differs.
 use Prim.Native.Nat.{ℕ, ◌*◌, ◌<◌}
 use native.Mathlib.Omega.{arith}

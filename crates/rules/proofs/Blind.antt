@@ -51,7 +51,7 @@ pub CPV_as_contracted : (vp vf : Point → ℤ) (l : Lines) → CPVs (measured_a
 unfolding CPVs pv_total
 CPV_as_contracted vp vf l = rw (EUSTs_as_contracted vp vf l)
 
--- ---- the month with other direct charges (paper 02, Q_1: ong "stands outside VME, VD and the shares")
+-- ---- the month with other direct charges (paper 02, Q-1: ong "stands outside VME, VD and the shares")
 abbrev pub direct_as : (User → ℤ) → Lines → Lines
 direct_as ong l =
     record {

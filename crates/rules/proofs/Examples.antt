@@ -119,7 +119,7 @@ by_self =
     ∷ (close (month (pos 202407) (neg_ℤ (pos 1)) (a1 ∷ []) (u1 ∷ []) (p1 ∷ [])), refused 5 0)
     ∷ (close (lines (agent (pos 2) (pos 1000) (pos 0) ∷ []) (u1 ∷ []) (p1 ∷ [])), refused 5 1)
     ∷ (close (lines (a1 ∷ []) (user (pos 1) (pos 4) ∷ []) (p1 ∷ [])), refused 5 1)
-    -- and a direct charge, which is 0 to 10^11 (paper 02, Q_1)
+    -- and a direct charge, which is 0 to 10^11 (paper 02, Q-1)
     ∷ (close (lines (a1 ∷ []) (charged (neg_ℤ (pos 1)) ∷ []) (p1 ∷ [])), refused 5 1)
     ∷ (close (lines (a1 ∷ []) (charged (pos (10 ^ 11 + 1)) ∷ []) (p1 ∷ [])), refused 5 1)
     ∷ (close (lines (a1 ∷ []) (charged (pos (10 ^ 11)) ∷ []) (p1 ∷ [])), accepted)

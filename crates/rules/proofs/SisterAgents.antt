@@ -1,4 +1,4 @@
--- SISTER AGENTS (paper 02, Q_13): what two neighbouring agents receive once they are listed as one, and what an agent without pb receives.
+-- SISTER AGENTS (paper 02, Q-13): what two neighbouring agents receive once they are listed as one, and what an agent without pb receives.
 use Prim.Native.Nat.{ℕ, zero, suc, ◌<◌}
 use native.Mathlib.Omega.{arith}
 use mathlib.Core.Path.{◌≡◌, refl, sym, ap, ◌∙◌}

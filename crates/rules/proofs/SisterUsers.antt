@@ -1,4 +1,4 @@
--- SISTER USERS (paper 02, Q_13): what compensates two neighbouring users once they are listed as one, and a user without EUST.
+-- SISTER USERS (paper 02, Q-13): what compensates two neighbouring users once they are listed as one, and a user without EUST.
 use Prim.Native.Nat.{ℕ, zero, suc, ◌+◌, ◌<◌}
 use native.Mathlib.Omega.{arith}
 use mathlib.Core.Path.{◌≡◌, refl, ap, ap₂, ◌∙◌, subst}

@@ -1,4 +1,4 @@
--- Sister lines at work (paper 02, Q_13), with nothing assumed: two months, each with its sisters apart and on one line, their amounts
+-- Sister lines at work (paper 02, Q-13), with nothing assumed: two months, each with its sisters apart and on one line, their amounts
 -- worked out; and amounts of sisters on one line that are not those of both, so that no more can be claimed.
 use Prim.Native.Nat.{ℕ}
 use native.Mathlib.Omega.{arith}

@@ -1,4 +1,4 @@
--- A CYCLE CLOSED WHOLE (paper 02, Q_8). Whatever the list of closings on a newly opened ledger: where the cycle starts with the ledger's
+-- A CYCLE CLOSED WHOLE (paper 02, Q-8). Whatever the list of closings on a newly opened ledger: where the cycle starts with the ledger's
 -- first closing in July, or after a closing in an earlier cycle, and its June is closed, an agent with the same yearly adjustment in each of
 -- its closed months receives exactly that, whichever months were skipped or refused.
 use Prim.Native.Nat.{ℕ}

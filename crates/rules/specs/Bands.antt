@@ -1,4 +1,4 @@
--- The bands of a point rounded each for itself, beside both rounded together (paper 02, Q_4).
+-- The bands of a point rounded each for itself, beside both rounded together (paper 02, Q-4).
 use Rattle.std.specs.Prelude.{ℕ, List, ℤ, pos, ◌+ℤ◌, ◌-ℤ◌, ◌*ℤ◌, ◌≤ℤ◌}
 use Rattle.rules.specs.declared.Point.{Point}
 use Rattle.rules.specs.Charges.{half_up, excess, of_user}

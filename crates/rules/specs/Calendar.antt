@@ -1,4 +1,4 @@
--- Months (paper 01, "A month's lines" and "Credits of a payee"; paper 02, Q_7 and Q_8).
+-- Months (paper 01, "A month's lines" and "Credits of a payee"; paper 02, Q-7 and Q-8).
 use Rattle.std.specs.Prelude.{ℕ, Bool, cond, ◌||◌, ℤ, pos, ◌-ℤ◌, ◌*ℤ◌}
 use Rattle.std.specs.Int.Signed.{lt_z}
 use Rattle.ints.specs.Floor.{floor}

@@ -1,5 +1,5 @@
 -- The month of paper 01's example file ("The month file"), on which its case a and ours are worked out: the values of its lines as the
--- paper prints them, each user's with a direct charge of 0 (paper 02, Q_1), and the month.
+-- paper prints them, each user's with a direct charge of 0 (paper 02, Q-1), and the month.
 use Rattle.std.specs.Prelude.{ℕ, List, [], ◌∷◌, map, ℤ, pos}
 use Rattle.rules.specs.declared.MonthLine.{MonthLine}
 use Rattle.rules.specs.declared.Point.{Point}

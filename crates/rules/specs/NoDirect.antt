@@ -1,4 +1,4 @@
--- Months without direct charges (paper 02, Q_1): what demand 3 says of a list of them is what it said before there were any.
+-- Months without direct charges (paper 02, Q-1): what demand 3 says of a list of them is what it said before there were any.
 use Rattle.std.specs.Prelude.{ℕ, suc, ◌<◌, ◌≡◌, List, [], ◌∷◌, map, ℤ, pos, ◌+ℤ◌, ◌-ℤ◌, ◌*ℤ◌, length, get_or, replicate, ◌<ℤ◌}
 use Rattle.ints.specs.Bridge.{abs}
 use Rattle.ints.specs.Sums.{sum_ℤ}

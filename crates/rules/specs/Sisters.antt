@@ -1,4 +1,4 @@
--- Sister lines of a month (paper 02, Q_13): two neighbouring agents, or users, k and k + 1 counted from 0, that a second month m lists as
+-- Sister lines of a month (paper 02, Q-13): two neighbouring agents, or users, k and k + 1 counted from 0, that a second month m lists as
 -- one. A line's own number is not looked at, so the lines after the pair may move up by one.
 use Rattle.std.specs.Prelude.{ℕ, suc, ◌<◌, ◌≡◌, cond, map, ℤ, pos, ◌-ℤ◌, length}
 use Rattle.std.specs.Int.Signed.{lt_z}

@@ -20,7 +20,7 @@ pub record Table (vc vd cells : List ℤ) : Type 0 where
   pub row : (i : ℕ) → i < length vc → Σ< (length vd) (λ j. cell_at (length vd) cells i j) ≡ get_or vc i (pos 0)
   pub column : (j : ℕ) → j < length vd → Σ< (length vc) (λ i. cell_at (length vd) cells i j) ≡ get_or vd j (pos 0)
 
--- Of all lists of cells that are T the largest in list order, payees in order and users within them (paper 02, Q_6): another one that has
+-- Of all lists of cells that are T the largest in list order, payees in order and users within them (paper 02, Q-6): another one that has
 -- the same cells before the place p holds no more at p
 pub record Largest (T : List ℤ → Type 0) (cells : List ℤ) : Type 0 where
   pub table : T cells

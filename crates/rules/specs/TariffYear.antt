@@ -1,4 +1,4 @@
--- The tariff year read against the calendar (paper 02, Q_7 and Q_8).
+-- The tariff year read against the calendar (paper 02, Q-7 and Q-8).
 use Rattle.std.specs.Prelude.{◌≡◌, ◌≢◌, ℤ, pos, ◌+ℤ◌, ◌≤ℤ◌, ◌<ℤ◌}
 use Rattle.rules.specs.Calendar.{month_before, cycle_month}
 use Rattle.rules.specs.Limits.{Month}

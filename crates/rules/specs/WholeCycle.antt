@@ -1,4 +1,4 @@
--- A cycle of the yearly adjustments over a list of closings, whichever of its months never closed (paper 02, Q_8).
+-- A cycle of the yearly adjustments over a list of closings, whichever of its months never closed (paper 02, Q-8).
 use Rattle.std.specs.Prelude.{ℕ, ◌≡◌, ◌⊎◌, cond, List, [], ◌∷◌, ℤ, pos, ◌+ℤ◌, ◌*ℤ◌, get_or, ◌≤ℤ◌}
 use Rattle.ints.specs.Range.{eq_z}
 use Rattle.rules.specs.Verdict.{Verdict, accepted, refused}

@@ -1,4 +1,4 @@
--- The share answers by its limits (`share_limits`), and no two cases of the code's answer stand for the same (`one_answer`).
+-- The share answers by its limits (`share_limits`), and no two cases of the code's answer stand for the same (`one-answer`).
 use Rattle.std.proofs.Common.{◌≡◌, ℕ, Bool, true, false, cond, ◌||◌, eqb, ℤ, pos, sym, refl, ap, ◌∙◌, true≢false, arith}
 use lib.Signed.{lt_z}
 use Rattle.ints.specs.Bridge.{za}

@@ -30,7 +30,7 @@ sharing P before through W =
     (cond (bad_sums before through W) (refuses 5 3) (answers (part P before through W))))
 
 -- what each case of the code's answer stands for: the part, or number and place;
--- no two stand for the same (`one_answer` in proofs/Limits)
+-- no two stand for the same (`one-answer` in proofs/Limits)
 abbrev pub answer_of : Shared → ShareAnswer
 answer_of (Part x) = answers x
 answer_of BadAmount = refuses 5 1

@@ -14,7 +14,7 @@ pub by_hand : running_share (neg_ℤ (pos 1106)) (pos 1000 ∷ pos 2000 ∷ []) 
 unfolding floor part parts_from running_share sum_ℤ
 by_hand = refl
 
--- sister lines (paper 02, Q_13): −1106 over 1000, 700, 0, 1300; with the first two as one; without the third
+-- sister lines (paper 02, Q-13): −1106 over 1000, 700, 0, 1300; with the first two as one; without the third
 abbrev four : List ℤ
 four = pos 1000 ∷ pos 700 ∷ pos 0 ∷ pos 1300 ∷ []
 

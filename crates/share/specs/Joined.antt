@@ -1,4 +1,4 @@
--- Sister lines (paper 02, Q_13): two neighbouring lines listed as one, and a line of weight 0 left out. Both theorems hold for every list
+-- Sister lines (paper 02, Q-13): two neighbouring lines listed as one, and a line of weight 0 left out. Both theorems hold for every list
 -- of weights and an amount P of either sign.
 use Rattle.std.specs.Prelude.{◌≡◌, ℕ, zero, suc, ◌<◌, List, [], ◌∷◌, ◌++◌, length, take, drop, ℤ, pos, ◌+ℤ◌, slice_index_or}
 use Rattle.std.proofs.Common.{arith, sym}

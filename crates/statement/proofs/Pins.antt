@@ -7,6 +7,7 @@ use prog.Model.{Model}
 use types.Logic.{Logic}
 use contract.Monad.{fact}
 use contract.Running.{Running}
+use prog.Wired.{Wired}
 use denote.Triple.Spec.{Spec, Meets, exits}
 use mathlib.Core.List.{map}
 use Rattle.rules.specs.Lines.{month_lines, point_of}
@@ -16,7 +17,7 @@ use Rattle.statement.specs.contracts.state as state
 use Rattle.statement.proofs.state.Symbol as state_code
 use Rattle.statement.proofs.state.Met as state_met
 use Rattle.statement.specs.contracts.state_lines as lines
-use Rattle.statement.proofs.state_lines.Symbol as lines_Code
+use Rattle.statement.proofs.state_lines.Symbol as lines_code
 use Rattle.statement.proofs.state_lines.Met as lines_met
 
 module _ {M : Type 1} {𝓤 : Ura M} (𝓛 : Logic 𝓤) (𝓜 : Model 𝓤 𝓛.H) (𝓡 : Running 𝓤 𝓛.H 𝓜) where
@@ -46,7 +47,7 @@ module _ {M : Type 1} {𝓤 : Ura M} (𝓛 : Logic 𝓤) (𝓜 : Model 𝓤 𝓛
             (NotStated points users payees r points' users' payees')));
       }
 
-  pub state_meets : Meets 𝓛 state.signature (𝓡.run state_code.routine) state_promise
+  pub state_meets : Wired 𝓡.env state_code.code → Meets 𝓛 state.signature (𝓡.run (𝓡.env state_code.name)) state_promise
   state_meets = state_met.met 𝓤 𝓛 𝓜 𝓡
 
   -- state_lines, the same of points as lines
@@ -75,5 +76,5 @@ module _ {M : Type 1} {𝓤 : Ura M} (𝓛 : Logic 𝓤) (𝓜 : Model 𝓤 𝓛
             (NotStated points users payees r points' users' payees')));
       }
 
-  pub lines_meets : Meets 𝓛 lines.signature (𝓡.run lines_Code.routine) lines_promise
+  pub lines_meets : Wired 𝓡.env lines_code.code → Meets 𝓛 lines.signature (𝓡.run (𝓡.env lines_code.name)) lines_promise
   lines_meets = lines_met.met 𝓤 𝓛 𝓜 𝓡

@@ -23,7 +23,7 @@ use Rattle.statement.specs.declared.Stated.{Stated}
 abbrev pub at : List ℤ → ℕ → ℤ
 at column i = get_or column i (pos 0)
 
--- a point: use charge (A1_4, A1_7) and overrun (A.1.10)
+-- a point: use charge (A1-4, A1-7) and overrun (A.1.10)
 abbrev pub point_row : List User → Point → List ℤ
 point_row users p = use_charge p ∷ overrun (kind_of users p.user) p ∷ []
 
@@ -35,7 +35,7 @@ unfoldable pub user_rows_of : (EUST overruns VME CPV before n VD after : List �
 user_rows_of EUST overruns VME CPV before n VD after users =
     each_from 0 (λ i u. at EUST i ∷ at overruns i ∷ u.ret ∷ at VME i ∷ at CPV i ∷ at before i ∷ at n i ∷ at VD i ∷ at after i ∷ u.ong ∷ []) users
 
--- EUST, overruns, ret, VME, CPV (1.2.1.1.2), held credit before, n, debit VD, held credit after (1.2.2), direct charge (paper 02, Q_1)
+-- EUST, overruns, ret, VME, CPV (1.2.1.1.2), held credit before, n, debit VD, held credit after (1.2.2), direct charge (paper 02, Q-1)
 unfoldable pub user_rows : State → Lines → List (List ℤ)
 user_rows s l = user_rows_of (EUSTs l) (overrun_sums l) (VMEs l) (CPVs l) s.credits (ns s l) (VDs s l) (new_credits s l) l.users
 

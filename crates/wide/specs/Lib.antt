@@ -1,2 +1,2 @@
--- What the two_word arithmetic promises.
+-- What the two-word arithmetic promises.
 pub mod Exact

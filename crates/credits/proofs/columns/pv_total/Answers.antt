@@ -1,0 +1,14 @@
+-- The column as rules names it.
+use Rattle.std.proofs.Common.{ap, ◌∙◌, arith, to_z-of_z, w64, SFits, rules}
+use Rattle.ints.specs.Sums.{sum_ℤ}
+use Rattle.credits.specs.Columns.{pv_column}
+use Rattle.credits.proofs.Amounts.{pv_summable}
+use Rattle.credits.proofs.columns.pv_total.Goals as goal
+
+pub column_total-requires : goal.column_total-requires
+column_total-requires c = (omega arith, rw pv_column (pv_summable c.requires))
+
+pub returns : goal.returns
+returns c =
+    let r : SFits w64 c.column_total.result = search rules in
+    to_z-of_z r ∙ c.column_total.ensures ∙ ap sum_ℤ (pv_column c.args.agents.now)
