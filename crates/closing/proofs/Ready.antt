@@ -2,7 +2,7 @@
 use Prim.Native.Nat.{ℕ, ◌+◌, ◌*◌, ◌≤◌}
 use native.Mathlib.Omega.{arith}
 use native.Mathlib.Nat.{mul-le-mul}
-use mathlib.Core.Path.{◌≡◌, refl, sym, ap, ap₂, ◌∙◌}
+use mathlib.Core.Path.{◌≡◌, refl, sym, ap₂, ◌∙◌}
 use mathlib.Core.List.{List}
 use lib.IntN.{ℤ}
 use lib.ListN.{length, take, length-map}
@@ -12,7 +12,6 @@ use Rattle.rules.specs.declared.MonthLine.{MonthLine}
 use Rattle.rules.specs.declared.Point.{Point}
 use Rattle.rules.specs.Verdict.{Verdict, accepted}
 use Rattle.rules.specs.Lines.{Lines, agent_of, user_of, month_lines}
-use Rattle.rules.specs.State.{State}
 use Rattle.rules.specs.Refusals.{cells_needed, short_slices}
 use Rattle.rules.specs.Calls.{state_of, lengths_of, closing_refusal}
 use Rattle.rules.proofs.Passed.{Passed, passed, Slices, slices, slices_accepted}
