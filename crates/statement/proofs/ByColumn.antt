@@ -34,7 +34,8 @@ by_entry f xs a k col e h =
     ∙ h i (get_or xs i a))
 
 -- or each with an amount of its line
-by_line : {A : Type 0} (f : ℕ → A → List ℤ) (g : A → ℤ) (k m : ℕ) (xs : List A) → ((i : ℕ) (x : A) → at (f i x) k ≡ g x) → column k (each_from m f xs) ≡ map g xs
+by_line : {A : Type 0} (f : ℕ → A → List ℤ) (g : A → ℤ) (k m : ℕ) (xs : List A)
+    → ((i : ℕ) (x : A) → at (f i x) k ≡ g x) → column k (each_from m f xs) ≡ map g xs
 unfolding each_from
 by_line f g k m [] h = refl
 by_line f g k m (x ∷ xs) h = ap₂ (λ (y : ℤ) (ys : List ℤ). y ∷ ys) (h m x) (by_line f g k (suc m) xs h)

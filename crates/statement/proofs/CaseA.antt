@@ -10,7 +10,8 @@ use Rattle.rules.specs.Calendar.{month_of_year, cycle_month, settled_to}
 use Rattle.rules.specs.Lines.{kind_of}
 use Rattle.rules.specs.State.{State}
 use Rattle.rules.specs.July.{july}
-use Rattle.rules.specs.Charges.{half_up, or_zero, use_charge, allowance, excess, overrun, of_user, EUSTs, overrun_sums, VMEs, pv_total, CPVs, ns, VDs, new_credits}
+use Rattle.rules.specs.Charges.{half_up, or_zero, use_charge, allowance, excess, overrun, of_user, EUSTs, overrun_sums, VMEs}
+use Rattle.rules.specs.Charges.{pv_total, CPVs, ns, VDs, new_credits}
 use Rattle.rules.specs.Credits.{VMPA, VMST, own_credit, own_credits_from, SMSEFrom, VMANTsFrom, agent_VCs_from}
 use Rattle.statement.specs.Statement.{point_rows, user_rows_of, user_rows, agent_rows_of, payee_rows_from, payee_rows}
 

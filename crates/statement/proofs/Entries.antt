@@ -18,7 +18,8 @@ pub each_at : {A B : Type 0} (f : ℕ → A → B) (xs : List A) (i : ℕ) (a : 
 each_at f xs i a b h = get_or_each_from 0 f xs i a b h ∙ ap (λ (k : ℕ). f k (get_or xs i a)) (omega arith)
 
 -- ---- of the users
-pub length_user_rows : (users : List (List ℤ)) (uses over vme cpv held vd new : List ℤ) → length (user_rows_by users uses over vme cpv held vd new) ≡ length users
+pub length_user_rows : (users : List (List ℤ)) (uses over vme cpv held vd new : List ℤ)
+    → length (user_rows_by users uses over vme cpv held vd new) ≡ length users
 unfolding user_rows_of
 length_user_rows users uses over vme cpv held vd new = length_each_from 0 _ (map user_of users) ∙ length-map users user_of
 

@@ -1,4 +1,4 @@
--- What a caller learns from the checked contract of `state`, which takes a slice of records and is walked: the kit's own reading of the
+-- What a caller learns from the checked contract of `state`, which takes a slice of records: the kit's own reading of the
 -- generated clauses (records' `LearntBy`). Assumes nothing.
 use mathlib.Core.Path.{refl}
 use base.Logic.{id⊢}

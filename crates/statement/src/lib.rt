@@ -156,7 +156,7 @@ fn state_first(
         payee_rows.len() as u64,
     );
     let s = charges::scan::scan(points, users);
-    // judging takes sums of its own
+    // judging takes its sums for good, and writing needs them too
     let uses = s.uses;
     let overruns = s.overruns;
     let again = Sums {

@@ -9,8 +9,6 @@ use mir.Facts.{to_z-of_z}
 use Rattle.ints.specs.Fill.{filling_none, filling_long, filling_more, filling_all}
 use Rattle.closing.proofs.write.copy.Goals as goal
 
--- The loop writes the entries from the start.
-
 pub bounds-to-i : goal.bounds-to-i
 bounds-to-i c =
     let s = c.before.before.before in

@@ -1,3 +1,4 @@
+-- The loop writes the entries from the start.
 use Prim.Native.Nat.{◌-◌}
 use Rattle.ints.specs.Fill.{Filling}
 use Rattle.closing.proofs.write.copy.Given as goal
