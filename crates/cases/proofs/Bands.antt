@@ -15,10 +15,10 @@ use Rattle.rules.specs.Tally.{after, verdicts}
 use Rattle.cases.specs.Bands.{ByBand}
 
 pub by_band : ByBand
-unfolding after verdicts refusal bad_counts short_slices bad_month count_tests state_tests lines_before_points line_tests sum_tests each_line outside impossible_month
-    month_of_year kind_of bad_agent bad_user bad_point unfit_point floor sum_ℤ each_from side_by_side half_up or_zero use_charge allowance excess overrun of_user EUSTs
-    overrun_sums VMEs pv_total CPVs ns VDs new_credits running_share parts_from part cycle_month cycle_of settled_to VMPA VMST own_credit own_credits_from SMSEFrom
-    VMANTsFrom agent_VCs_from VCsFrom
+unfolding after verdicts refusal bad_counts short_slices bad_month count_tests state_tests lines_before_points line_tests sum_tests each_line outside
+    impossible_month month_of_year kind_of bad_agent bad_user bad_point unfit_point floor sum_ℤ each_from side_by_side half_up or_zero use_charge
+    allowance excess overrun of_user EUSTs overrun_sums VMEs pv_total CPVs ns VDs new_credits running_share parts_from part cycle_month cycle_of
+    settled_to VMPA VMST own_credit own_credits_from SMSEFrom VMANTsFrom agent_VCs_from VCsFrom
 by_band =
     record {
       answers = refl;

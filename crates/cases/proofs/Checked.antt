@@ -23,10 +23,11 @@ use Rattle.cases.proofs.Tables.{table_of, whole_of}
 use Rattle.cases.proofs.Columns.{three}
 
 a : A
-unfolding reading scan_at scan read_blocks read_lines read_line read_value read_digits format more line in_value enter step refusal bad_counts short_slices bad_month
-    count_tests state_tests lines_before_points line_tests sum_tests each_line outside impossible_month month_of_year kind_of bad_agent bad_user bad_point unfit_point floor
-    sum_ℤ Σ< each_from side_by_side half_up or_zero use_charge allowance excess overrun of_user EUSTs overrun_sums VMEs pv_total CPVs ns VDs new_credits running_share
-    parts_from part cycle_month settled_to VMPA VMST own_credit own_credits_from SMSEFrom VMANTsFrom agent_VCs_from VCsFrom
+unfolding reading scan_at scan read_blocks read_lines read_line read_value read_digits format more line in_value enter step refusal bad_counts
+    short_slices bad_month count_tests state_tests lines_before_points line_tests sum_tests each_line outside impossible_month month_of_year kind_of
+    bad_agent bad_user bad_point unfit_point floor sum_ℤ Σ< each_from side_by_side half_up or_zero use_charge allowance excess overrun of_user EUSTs
+    overrun_sums VMEs pv_total CPVs ns VDs new_credits running_share parts_from part cycle_month settled_to VMPA VMST own_credit own_credits_from
+    SMSEFrom VMANTsFrom agent_VCs_from VCsFrom
 a =
     record {
       read_whole = refl;
@@ -85,9 +86,9 @@ unfolding VMPA settled_to cycle_month month_of_year floor
 i = refl
 
 j : J
-unfolding after verdicts refusal bad_counts short_slices bad_month count_tests state_tests lines_before_points line_tests sum_tests each_line outside impossible_month
-    month_of_year kind_of bad_agent bad_user bad_point unfit_point floor sum_ℤ each_from side_by_side half_up or_zero use_charge allowance excess overrun of_user EUSTs
-    overrun_sums VMEs pv_total CPVs ns VDs new_credits
+unfolding after verdicts refusal bad_counts short_slices bad_month count_tests state_tests lines_before_points line_tests sum_tests each_line outside
+    impossible_month month_of_year kind_of bad_agent bad_user bad_point unfit_point floor sum_ℤ each_from side_by_side half_up or_zero use_charge
+    allowance excess overrun of_user EUSTs overrun_sums VMEs pv_total CPVs ns VDs new_credits
 j = record { closed = refl; n = refl; debit = refl; held = refl; charges = refl; debit_then = refl; held_then = refl }
 
 pub checked_by_hand : All by_hand

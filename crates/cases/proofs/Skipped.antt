@@ -20,15 +20,16 @@ use Rattle.rules.proofs.WholeCycle.{whole_cycle}
 use Rattle.cases.specs.Skipped.{cycle, Skipped}
 
 whole : WholeCycle (pos 2024) (opened 2 2) cycle
-unfolding first_closed Closed refusal bad_counts short_slices bad_month count_tests state_tests lines_before_points line_tests sum_tests each_line outside impossible_month
-    month_of_year kind_of bad_agent bad_user bad_point unfit_point floor sum_ℤ each_from side_by_side half_up or_zero use_charge allowance excess overrun of_user EUSTs
-    overrun_sums VMEs pv_total CPVs ns VDs new_credits running_share parts_from part
+unfolding first_closed Closed refusal bad_counts short_slices bad_month count_tests state_tests lines_before_points line_tests sum_tests each_line
+    outside impossible_month month_of_year kind_of bad_agent bad_user bad_point unfit_point floor sum_ℤ each_from side_by_side half_up or_zero
+    use_charge allowance excess overrun of_user EUSTs overrun_sums VMEs pv_total CPVs ns VDs new_credits running_share parts_from part
 whole = record { from = omega za; to = inr (inr (inr (inl (refl, refl)))) }
 
 pub skipped : Skipped
-unfolding verdicts SameEachMonth refusal bad_counts short_slices bad_month count_tests state_tests lines_before_points line_tests sum_tests each_line outside
-    impossible_month month_of_year kind_of bad_agent bad_user bad_point unfit_point floor sum_ℤ each_from side_by_side half_up or_zero use_charge allowance excess overrun
-    of_user EUSTs overrun_sums VMEs pv_total CPVs ns VDs new_credits running_share parts_from part cycle_month cycle_of settled_to VMPA
+unfolding verdicts SameEachMonth refusal bad_counts short_slices bad_month count_tests state_tests lines_before_points line_tests sum_tests each_line
+    outside impossible_month month_of_year kind_of bad_agent bad_user bad_point unfit_point floor sum_ℤ each_from side_by_side half_up or_zero
+    use_charge allowance excess overrun of_user EUSTs overrun_sums VMEs pv_total CPVs ns VDs new_credits running_share parts_from part cycle_month
+    cycle_of settled_to VMPA
 skipped =
     record {
       twenty_five = refl;

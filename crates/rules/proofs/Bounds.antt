@@ -91,7 +91,10 @@ pub bounds_accepted : (s : State) (short : Verdict) (l : Lines) → length s.cre
 bounds_accepted s short l w e = bounds s l w (passed s short l e)
 
 -- an accepted closing on this ledger and these slices
-pub bounds_closing : (g : Ledger) (held cells : List ℤ) (work : List ℕ) (l : Lines) → closing_refusal g held cells work l ≡ accepted → Bounds (state_of g held) l
+pub bounds_closing :
+    (g : Ledger) (held cells : List ℤ) (work : List ℕ) (l : Lines)
+    → closing_refusal g held cells work l ≡ accepted
+    → Bounds (state_of g held) l
 bounds_closing g held cells work l e =
     let s = state_of g held in
     let short = short_slices s (lengths_of held cells work) in

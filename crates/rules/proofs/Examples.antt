@@ -169,9 +169,9 @@ in_order =
     ∷ []
 
 pub refusals : map (λ (c : Case). c.0) (by_self ++ in_order) ≡ map (λ (c : Case). c.1) (by_self ++ in_order)
-unfolding by_self in_order refusal opening_refusal bad_counts short_slices bad_month count_tests state_tests lines_before_points line_tests sum_tests each_line
-    impossible_month month_of_year outside bad_agent bad_user bad_point unfit_point kind_of pv_total EUSTs overrun_sums VMEs CPVs ns VDs each_from side_by_side of_user
-    use_charge overrun excess allowance or_zero half_up floor sum_ℤ running_share parts_from part
+unfolding by_self in_order refusal opening_refusal bad_counts short_slices bad_month count_tests state_tests lines_before_points line_tests sum_tests
+    each_line impossible_month month_of_year outside bad_agent bad_user bad_point unfit_point kind_of pv_total EUSTs overrun_sums VMEs CPVs ns VDs
+    each_from side_by_side of_user use_charge overrun excess allowance or_zero half_up floor sum_ℤ running_share parts_from part
 refusals = refl
 
 -- ---- amounts that the cases by hand leave out

@@ -99,8 +99,8 @@ places =
     ∷ []
 
 pub places_right : map (λ (c : Verdict × Verdict). c.0) places ≡ map (λ (c : Verdict × Verdict). c.1) places
-unfolding places refusal bad_counts short_slices bad_month count_tests state_tests lines_before_points line_tests sum_tests each_line
-    impossible_month month_of_year outside bad_agent bad_user bad_point unfit_point kind_of pv_total EUSTs overrun_sums VMEs CPVs ns VDs each_from side_by_side of_user
+unfolding places refusal bad_counts short_slices bad_month count_tests state_tests lines_before_points line_tests sum_tests each_line impossible_month
+    month_of_year outside bad_agent bad_user bad_point unfit_point kind_of pv_total EUSTs overrun_sums VMEs CPVs ns VDs each_from side_by_side of_user
     use_charge overrun excess allowance or_zero half_up floor sum_ℤ running_share parts_from part
 places_right = refl
 
@@ -139,8 +139,8 @@ point_columns =
     ++ map (λ (c : ℕ). column c (pos 0) (pos 20000000)) (5 ∷ 6 ∷ 7 ∷ 8 ∷ [])
 
 pub ends_right : ends (agent 1) agent_columns ++ ends (user 1) user_columns ++ ends (point 1) point_columns ≡ replicate 36 accepted
-unfolding ends refusal bad_counts short_slices bad_month count_tests state_tests lines_before_points line_tests sum_tests each_line
-    impossible_month month_of_year outside bad_agent bad_user bad_point unfit_point kind_of pv_total EUSTs overrun_sums VMEs CPVs ns VDs each_from side_by_side of_user
+unfolding ends refusal bad_counts short_slices bad_month count_tests state_tests lines_before_points line_tests sum_tests each_line impossible_month
+    month_of_year outside bad_agent bad_user bad_point unfit_point kind_of pv_total EUSTs overrun_sums VMEs CPVs ns VDs each_from side_by_side of_user
     use_charge overrun excess allowance or_zero half_up floor sum_ℤ running_share parts_from part
 ends_right = refl
 
@@ -153,7 +153,7 @@ beyond_right = refl
 pub kinds_right :
     map (λ (c : ℕ). point 2 c (pos 1)) (2 ∷ 4 ∷ 6 ∷ 8 ∷ 3 ∷ []) ++ map (λ (c : ℕ). point 0 c (pos 1)) (3 ∷ 4 ∷ 2 ∷ 6 ∷ 8 ∷ [])
     ≡ replicate 4 (refused 7 3) ++ accepted ∷ refused 7 1 ∷ refused 7 1 ∷ replicate 3 accepted
-unfolding refusal bad_counts short_slices bad_month count_tests state_tests lines_before_points line_tests sum_tests each_line
-    impossible_month month_of_year outside bad_agent bad_user bad_point unfit_point kind_of pv_total EUSTs overrun_sums VMEs CPVs ns VDs each_from side_by_side of_user
+unfolding refusal bad_counts short_slices bad_month count_tests state_tests lines_before_points line_tests sum_tests each_line impossible_month
+    month_of_year outside bad_agent bad_user bad_point unfit_point kind_of pv_total EUSTs overrun_sums VMEs CPVs ns VDs each_from side_by_side of_user
     use_charge overrun excess allowance or_zero half_up floor sum_ℤ running_share parts_from part
 kinds_right = refl

@@ -44,7 +44,9 @@ by_refused {v} {done} {back} {n} {p} e b = record {
 -- ---- opening
 module _ (users agents : ℕ) (held : List ℤ) where
   pub opens_refused :
-      (n p : ℕ) → opening_refusal users agents (length held) ≡ refused n p → Opens users agents held (record { answer = Refused n p; ledger = empty_ledger }) held
+      (n p : ℕ)
+      → opening_refusal users agents (length held) ≡ refused n p
+      → Opens users agents held (record { answer = Refused n p; ledger = empty_ledger }) held
   opens_refused n p e = by_refused e (record { outcome = refl; credits = refl })
 
   pub opens_accepted :

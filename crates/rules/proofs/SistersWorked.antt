@@ -170,9 +170,9 @@ abbrev unclaimed : List Lines
 unclaimed = adjusted_apart ∷ adjusted_one ∷ corrected_apart ∷ corrected_one ∷ []
 
 pub taken : map (λ (l : Lines). refusal (new l) accepted l) (months ++ unclaimed) ≡ replicate 12 accepted
-unfolding refusal bad_counts bad_month count_tests state_tests lines_before_points line_tests sum_tests each_line bad_agent bad_user bad_point unfit_point outside
-    impossible_month month_of_year floor each_from side_by_side sum_ℤ half_up or_zero use_charge allowance excess overrun of_user EUSTs overrun_sums VMEs pv_total CPVs ns
-    VDs part parts_from running_share kind_of
+unfolding refusal bad_counts bad_month count_tests state_tests lines_before_points line_tests sum_tests each_line bad_agent bad_user bad_point
+    unfit_point outside impossible_month month_of_year floor each_from side_by_side sum_ℤ half_up or_zero use_charge allowance excess overrun of_user
+    EUSTs overrun_sums VMEs pv_total CPVs ns VDs part parts_from running_share kind_of
 taken = refl
 
 -- ---- the amounts
@@ -201,6 +201,7 @@ amounts =
     ∷ []
 
 pub worked : map (λ (c : Amounts). c.0) amounts ≡ map (λ (c : Amounts). c.1) amounts
-unfolding amounts VCsFrom agent_VCs_from VMANTsFrom SMSEFrom own_credits_from own_credit VMST VMPA settled_to cycle_month month_of_year floor each_from side_by_side sum_ℤ
-    half_up or_zero use_charge allowance excess overrun of_user EUSTs overrun_sums VMEs pv_total CPVs ns VDs part parts_from running_share
+unfolding amounts VCsFrom agent_VCs_from VMANTsFrom SMSEFrom own_credits_from own_credit VMST VMPA settled_to cycle_month month_of_year floor
+    each_from side_by_side sum_ℤ half_up or_zero use_charge allowance excess overrun of_user EUSTs overrun_sums VMEs pv_total CPVs ns VDs part
+    parts_from running_share
 worked = refl

@@ -28,7 +28,8 @@ pub record Stands (users agents : ℕ) (s : State) (l : Lines) (cells : List ℤ
       (i j : ℕ)
       → i < suc agents
       → j < users
-      → pos (abs ((cell_at users cells i j -ℤ direct s l i j) *ℤ sum_ℤ (VDs s l) -ℤ get_or (VCs s l) i (pos 0) *ℤ get_or (VDs s l) j (pos 0))) <ℤ sum_ℤ (VDs s l)
+      → pos (abs ((cell_at users cells i j -ℤ direct s l i j) *ℤ sum_ℤ (VDs s l) -ℤ get_or (VCs s l) i (pos 0) *ℤ get_or (VDs s l) j (pos 0)))
+      <ℤ sum_ℤ (VDs s l)
 
 -- a cell of the table lies among the entries that it needs
 pub cell_in : (users agents i j : ℕ) → i < suc agents → j < users → i * users + j < cells_needed users agents
@@ -91,6 +92,7 @@ module _ (s : State) (l : Lines) (cells : List ℤ) (agents_are : length l.agent
             ∙ Σ_add m (λ i. cell_at n t.shared i j) (λ i. direct s l i j)
             ∙ ap₂ ◌+ℤ◌ (k.column j q) (direct_column s l j);
         near = λ i j p q.
-            subst (λ (x : ℤ). pos (abs (x *ℤ sum_ℤ (VDs s l) -ℤ get_or (VCs s l) i (pos 0) *ℤ get_or (VDs s l) j (pos 0))) <ℤ sum_ℤ (VDs s l)) (sym (off i j p q))
+            subst (λ (x : ℤ). pos (abs (x *ℤ sum_ℤ (VDs s l) -ℤ get_or (VCs s l) i (pos 0) *ℤ get_or (VDs s l) j (pos 0))) <ℤ sum_ℤ (VDs s l))
+            (sym (off i j p q))
             (k.near i j p q);
       }

@@ -100,15 +100,15 @@ work = replicate 32 0
 
 -- ---- the verdict on each closing
 in_july : closing_refusal new held₁ cells work july ≡ accepted
-unfolding refusal bad_counts short_slices bad_month count_tests state_tests lines_before_points line_tests sum_tests each_line bad_agent bad_user bad_point unfit_point
-    outside impossible_month month_of_year floor each_from side_by_side sum_ℤ half_up or_zero use_charge allowance excess overrun of_user EUSTs overrun_sums VMEs pv_total
-    CPVs ns VDs part parts_from running_share kind_of
+unfolding refusal bad_counts short_slices bad_month count_tests state_tests lines_before_points line_tests sum_tests each_line bad_agent bad_user
+    bad_point unfit_point outside impossible_month month_of_year floor each_from side_by_side sum_ℤ half_up or_zero use_charge allowance excess
+    overrun of_user EUSTs overrun_sums VMEs pv_total CPVs ns VDs part parts_from running_share kind_of
 in_july = refl
 
 in_august : closing_refusal (ledger (pos 202407)) held₂ cells₁ work august ≡ accepted
-unfolding refusal bad_counts short_slices bad_month count_tests state_tests lines_before_points line_tests sum_tests each_line bad_agent bad_user bad_point unfit_point
-    outside impossible_month month_of_year floor each_from side_by_side sum_ℤ half_up or_zero use_charge allowance excess overrun of_user EUSTs overrun_sums VMEs pv_total
-    CPVs ns VDs part parts_from running_share kind_of
+unfolding refusal bad_counts short_slices bad_month count_tests state_tests lines_before_points line_tests sum_tests each_line bad_agent bad_user
+    bad_point unfit_point outside impossible_month month_of_year floor each_from side_by_side sum_ℤ half_up or_zero use_charge allowance excess
+    overrun of_user EUSTs overrun_sums VMEs pv_total CPVs ns VDs part parts_from running_share kind_of
 in_august = refl
 
 in_september : closing_refusal (ledger (pos 202408)) too_short cells₂ work september ≡ refused 2 1
@@ -121,33 +121,35 @@ again = refl
 
 -- ---- credits and debits of the accepted ones, and a table of them: here every exact value is whole
 VCs₁ : pos 635 ∷ pos 1235 ∷ pos 100 ∷ [] ≡ VCs (state_of new held₁) july
-unfolding VCsFrom agent_VCs_from VMANTsFrom SMSEFrom own_credits_from own_credit VMST VMPA settled_to cycle_of cycle_month month_of_year floor each_from side_by_side sum_ℤ
-    half_up or_zero use_charge allowance excess overrun of_user EUSTs overrun_sums VMEs pv_total CPVs ns VDs part parts_from running_share
+unfolding VCsFrom agent_VCs_from VMANTsFrom SMSEFrom own_credits_from own_credit VMST VMPA settled_to cycle_of cycle_month month_of_year floor
+    each_from side_by_side sum_ℤ half_up or_zero use_charge allowance excess overrun of_user EUSTs overrun_sums VMEs pv_total CPVs ns VDs part
+    parts_from running_share
 VCs₁ = refl
 
 VDs₁ : pos 394 ∷ pos 1576 ∷ [] ≡ VDs (state_of new held₁) july
-unfolding floor each_from side_by_side sum_ℤ half_up or_zero use_charge allowance excess overrun of_user EUSTs overrun_sums VMEs pv_total CPVs ns VDs part parts_from
-    running_share
+unfolding floor each_from side_by_side sum_ℤ half_up or_zero use_charge allowance excess overrun of_user EUSTs overrun_sums VMEs pv_total CPVs ns VDs
+    part parts_from running_share
 VDs₁ = refl
 
 new₁ : new_credits (state_of new held₁) july ≡ pos 0 ∷ pos 0 ∷ []
-unfolding floor each_from side_by_side sum_ℤ half_up or_zero use_charge allowance excess overrun of_user EUSTs overrun_sums VMEs pv_total CPVs ns new_credits part
-    parts_from running_share
+unfolding floor each_from side_by_side sum_ℤ half_up or_zero use_charge allowance excess overrun of_user EUSTs overrun_sums VMEs pv_total CPVs ns
+    new_credits part parts_from running_share
 new₁ = refl
 
 VCs₂ : pos 504 ∷ pos 972 ∷ pos 100 ∷ [] ≡ VCs (state_of (ledger (pos 202407)) held₂) august
-unfolding VCsFrom agent_VCs_from VMANTsFrom SMSEFrom own_credits_from own_credit VMST VMPA settled_to cycle_of cycle_month month_of_year floor each_from side_by_side sum_ℤ
-    half_up or_zero use_charge allowance excess overrun of_user EUSTs overrun_sums VMEs pv_total CPVs ns VDs part parts_from running_share
+unfolding VCsFrom agent_VCs_from VMANTsFrom SMSEFrom own_credits_from own_credit VMST VMPA settled_to cycle_of cycle_month month_of_year floor
+    each_from side_by_side sum_ℤ half_up or_zero use_charge allowance excess overrun of_user EUSTs overrun_sums VMEs pv_total CPVs ns VDs part
+    parts_from running_share
 VCs₂ = refl
 
 VDs₂ : pos 0 ∷ pos 1576 ∷ [] ≡ VDs (state_of (ledger (pos 202407)) held₂) august
-unfolding floor each_from side_by_side sum_ℤ half_up or_zero use_charge allowance excess overrun of_user EUSTs overrun_sums VMEs pv_total CPVs ns VDs part parts_from
-    running_share
+unfolding floor each_from side_by_side sum_ℤ half_up or_zero use_charge allowance excess overrun of_user EUSTs overrun_sums VMEs pv_total CPVs ns VDs
+    part parts_from running_share
 VDs₂ = refl
 
 new₂ : new_credits (state_of (ledger (pos 202407)) held₂) august ≡ credits
-unfolding floor each_from side_by_side sum_ℤ half_up or_zero use_charge allowance excess overrun of_user EUSTs overrun_sums VMEs pv_total CPVs ns new_credits part
-    parts_from running_share
+unfolding floor each_from side_by_side sum_ℤ half_up or_zero use_charge allowance excess overrun of_user EUSTs overrun_sums VMEs pv_total CPVs ns
+    new_credits part parts_from running_share
 new₂ = refl
 
 -- three rows and two columns, one by one

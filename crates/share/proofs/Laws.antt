@@ -43,14 +43,19 @@ unfolding running_share
 parts_total P ws h = total_from P (sum_ℤ ws) (pos 0) ws ∙ rw +ℤ_idl (part_whole P (sum_ℤ ws) h)
 
 -- ---- each part lies less than one from the exact share: |part × W − P × w| < W
-near_from : (P W b : ℤ) (ws : List ℤ) (k : ℕ) → pos 0 <ℤ W → abs (slice_index_or (parts_from P W b ws) k (pos 0) *ℤ W -ℤ P *ℤ slice_index_or ws k (pos 0)) < abs W
+near_from :
+    (P W b : ℤ) (ws : List ℤ) (k : ℕ)
+    → pos 0 <ℤ W
+    → abs (slice_index_or (parts_from P W b ws) k (pos 0) *ℤ W -ℤ P *ℤ slice_index_or ws k (pos 0)) < abs W
 unfolding parts_from
 near_from P W b [] k z = omega (za, mul# (pos 0) W, mul# P (pos 0), sub# (pos 0 *ℤ W) (P *ℤ pos 0))
 near_from P W b (w ∷ ws) zero z = part_near P b w W z
 near_from P W b (w ∷ ws) (suc k) z = near_from P W (b +ℤ w) ws k z
 
-pub parts_near : (P : ℤ) (ws : List ℤ) (k : ℕ) → pos 0 <ℤ sum_ℤ ws → abs (slice_index_or (running_share P ws) k (pos 0) *ℤ sum_ℤ ws -ℤ P *ℤ slice_index_or ws k (pos 0))
-    < abs (sum_ℤ ws)
+pub parts_near :
+    (P : ℤ) (ws : List ℤ) (k : ℕ)
+    → pos 0 <ℤ sum_ℤ ws
+    → abs (slice_index_or (running_share P ws) k (pos 0) *ℤ sum_ℤ ws -ℤ P *ℤ slice_index_or ws k (pos 0)) < abs (sum_ℤ ws)
 unfolding running_share
 parts_near P ws k z = near_from P (sum_ℤ ws) (pos 0) ws k z
 

@@ -13,4 +13,5 @@ returns-then-x-low c =
 pub returns : goal.returns
 unfolding outside
 returns c =
-    simp (to_z-of_z, c.ranges.x, c.ranges.high) (sym (ap (λ (t : Bool). t || lt_z c.args.high c.args.x) (simp (to_z-of_z, c.ranges.x, c.ranges.low) at c.if-x-low.false)))
+    simp (to_z-of_z, c.ranges.x, c.ranges.high)
+    (sym (ap (λ (t : Bool). t || lt_z c.args.high c.args.x) (simp (to_z-of_z, c.ranges.x, c.ranges.low) at c.if-x-low.false)))
