@@ -1,5 +1,5 @@
 /*
- * Rateio for C and C++: link librateio_c.a, which `rt staticlib rateio_c` writes to target/staticlib/ (x86-64 Linux).
+ * Rateio for C and C++: link librateio_c.a, which `tools/clib` writes to target/staticlib/ (x86-64 Linux).
  *
  * Every function here is proved to answer what its comment says, for all values of its arguments: none is undefined
  * behaviour. A text is lent as a pointer, not NULL, and the count of bytes there, which nobody writes meanwhile. None
@@ -49,8 +49,8 @@ extern "C" {
  *
  * Neighbours may stand on one line, whose weight is the sum of theirs (before of the first, through of the last): it
  * receives the sum of their parts, and every other line what it received. A weight of 0 receives 0 and may be left out.
- * Both are theorems over every list of weights and every p: share-joined and share-left-out in
- * crates/share/specs/Joined.antt; of the answers here neighbours-learnt and nothing-learnt in
+ * Both are theorems over every list of weights and every p: share_joined and share_left_out in
+ * crates/share/proofs/Joined.antt; of the answers here neighbours_learnt and nothing_learnt in
  * crates/rateio_c/proofs/Learnt.antt.
  */
 int64_t rateio_share(int64_t p, int64_t before, int64_t through, int64_t w);

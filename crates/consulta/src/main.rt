@@ -4,11 +4,12 @@
 
 use runs::Print;
 
-fn main() {
+fn main(rt: HostRuntime) {
     runs::run(
+        &rt,
         Print::Amounts,
         b"month,item,payee,user,point,cents\n",
-        b"consulta: standard input",
-        b"consulta: standard output",
+        "consulta: standard input",
+        "consulta: standard output",
     );
 }

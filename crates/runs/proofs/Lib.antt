@@ -1,3 +1,2 @@
--- `Buffered`: an accepted file lies in the buffers, and the run goes on after it; `Digits`: how many a number has.
+-- `Buffered`: an accepted file lies in the buffers, and the run goes on after it.
 pub mod Buffered
-pub mod Digits

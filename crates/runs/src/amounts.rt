@@ -6,8 +6,15 @@ use crate::lines;
 use crate::rows::{Payee, row};
 use rules::{PointLine, columns};
 use statement::{PayeeRow, PointRow, UserRow, columns as stated};
+use std::io;
 
-fn points(month: i64, points: &[PointLine], rows: &[PointRow], told: &[u8]) -> bool
+fn points<R: io::Print + io::Eprint>(
+    rt: &R,
+    month: i64,
+    points: &[PointLine],
+    rows: &[PointRow],
+    told: &str,
+) -> bool
     requires { length rows.now ≤ length points.now }
 {
     let n = rows.len();
@@ -18,6 +25,7 @@ fn points(month: i64, points: &[PointLine], rows: &[PointRow], told: &[u8]) -> b
         let user = lines::size(line[columns::POINT_USER]);
         let point = i as u64 + 1;
         if !row(
+            rt,
             month,
             b"use",
             Payee::Nobody,
@@ -29,6 +37,7 @@ fn points(month: i64, points: &[PointLine], rows: &[PointRow], told: &[u8]) -> b
             return false;
         }
         if !row(
+            rt,
             month,
             b"overrun",
             Payee::Nobody,
@@ -45,11 +54,21 @@ fn points(month: i64, points: &[PointLine], rows: &[PointRow], told: &[u8]) -> b
 }
 
 // What a user is charged; how that is settled against its held credit, and what it owes straight to ONS.
-fn charged(month: i64, j: u64, r: UserRow, told: &[u8]) -> bool {
-    if !row(month, b"EUST", Payee::Nobody, j, 0, r[stated::EUST], told) {
+fn charged<R: io::Print + io::Eprint>(rt: &R, month: i64, j: u64, r: UserRow, told: &str) -> bool {
+    if !row(
+        rt,
+        month,
+        b"EUST",
+        Payee::Nobody,
+        j,
+        0,
+        r[stated::EUST],
+        told,
+    ) {
         return false;
     }
     if !row(
+        rt,
         month,
         b"overruns",
         Payee::Nobody,
@@ -61,6 +80,7 @@ fn charged(month: i64, j: u64, r: UserRow, told: &[u8]) -> bool {
         return false;
     }
     if !row(
+        rt,
         month,
         b"ret",
         Payee::Nobody,
@@ -71,14 +91,15 @@ fn charged(month: i64, j: u64, r: UserRow, told: &[u8]) -> bool {
     ) {
         return false;
     }
-    if !row(month, b"VME", Payee::Nobody, j, 0, r[stated::VME], told) {
+    if !row(rt, month, b"VME", Payee::Nobody, j, 0, r[stated::VME], told) {
         return false;
     }
-    row(month, b"CPV", Payee::Nobody, j, 0, r[stated::CPV], told)
+    row(rt, month, b"CPV", Payee::Nobody, j, 0, r[stated::CPV], told)
 }
 
-fn owed(month: i64, j: u64, r: UserRow, told: &[u8]) -> bool {
+fn owed<R: io::Print + io::Eprint>(rt: &R, month: i64, j: u64, r: UserRow, told: &str) -> bool {
     if !row(
+        rt,
         month,
         b"held_before",
         Payee::Nobody,
@@ -89,13 +110,14 @@ fn owed(month: i64, j: u64, r: UserRow, told: &[u8]) -> bool {
     ) {
         return false;
     }
-    if !row(month, b"n", Payee::Nobody, j, 0, r[stated::N], told) {
+    if !row(rt, month, b"n", Payee::Nobody, j, 0, r[stated::N], told) {
         return false;
     }
-    if !row(month, b"VD", Payee::Nobody, j, 0, r[stated::VD], told) {
+    if !row(rt, month, b"VD", Payee::Nobody, j, 0, r[stated::VD], told) {
         return false;
     }
     if !row(
+        rt,
         month,
         b"held_after",
         Payee::Nobody,
@@ -106,19 +128,19 @@ fn owed(month: i64, j: u64, r: UserRow, told: &[u8]) -> bool {
     ) {
         return false;
     }
-    row(month, b"ong", Payee::Nobody, j, 0, r[stated::ONG], told)
+    row(rt, month, b"ong", Payee::Nobody, j, 0, r[stated::ONG], told)
 }
 
-fn users(month: i64, rows: &[UserRow], told: &[u8]) -> bool {
+fn users<R: io::Print + io::Eprint>(rt: &R, month: i64, rows: &[UserRow], told: &str) -> bool {
     let n = rows.len();
     let mut i = 0;
     while i < n {
         let r = rows[i];
         let j = i as u64 + 1;
-        if !charged(month, j, r, told) {
+        if !charged(rt, month, j, r, told) {
             return false;
         }
-        if !owed(month, j, r, told) {
+        if !owed(rt, month, j, r, told) {
             return false;
         }
         i += 1;
@@ -126,14 +148,33 @@ fn users(month: i64, rows: &[UserRow], told: &[u8]) -> bool {
     true
 }
 
-fn agent(month: i64, i: u64, r: PayeeRow, told: &[u8]) -> bool {
-    if !row(month, b"VMST", Payee::Agent(i), 0, 0, r[stated::VMST], told) {
-        return false;
-    }
-    if !row(month, b"VMPA", Payee::Agent(i), 0, 0, r[stated::VMPA], told) {
+fn agent<R: io::Print + io::Eprint>(rt: &R, month: i64, i: u64, r: PayeeRow, told: &str) -> bool {
+    if !row(
+        rt,
+        month,
+        b"VMST",
+        Payee::Agent(i),
+        0,
+        0,
+        r[stated::VMST],
+        told,
+    ) {
         return false;
     }
     if !row(
+        rt,
+        month,
+        b"VMPA",
+        Payee::Agent(i),
+        0,
+        0,
+        r[stated::VMPA],
+        told,
+    ) {
+        return false;
+    }
+    if !row(
+        rt,
         month,
         b"VMANT",
         Payee::Agent(i),
@@ -145,6 +186,7 @@ fn agent(month: i64, i: u64, r: PayeeRow, told: &[u8]) -> bool {
         return false;
     }
     if !row(
+        rt,
         month,
         b"ret",
         Payee::Agent(i),
@@ -155,15 +197,15 @@ fn agent(month: i64, i: u64, r: PayeeRow, told: &[u8]) -> bool {
     ) {
         return false;
     }
-    row(month, b"VC", Payee::Agent(i), 0, 0, r[stated::VC], told)
+    row(rt, month, b"VC", Payee::Agent(i), 0, 0, r[stated::VC], told)
 }
 
-fn agents(month: i64, rows: &[PayeeRow], told: &[u8]) -> bool {
+fn agents<R: io::Print + io::Eprint>(rt: &R, month: i64, rows: &[PayeeRow], told: &str) -> bool {
     let n = rows.len();
     let mut i = 0;
     while i < n {
         let r = rows[i];
-        if !agent(month, i as u64 + 1, r, told) {
+        if !agent(rt, month, i as u64 + 1, r, told) {
             return false;
         }
         i += 1;
@@ -172,19 +214,25 @@ fn agents(month: i64, rows: &[PayeeRow], told: &[u8]) -> bool {
 }
 
 // ONS's shared part, and its credit with every direct charge.
-fn ons(month: i64, r: PayeeRow, told: &[u8]) -> bool {
-    if !row(month, b"ons", Payee::Ons, 0, 0, r[stated::SHARED], told) {
+fn ons<R: io::Print + io::Eprint>(rt: &R, month: i64, r: PayeeRow, told: &str) -> bool {
+    if !row(rt, month, b"ons", Payee::Ons, 0, 0, r[stated::SHARED], told) {
         return false;
     }
-    row(month, b"VC", Payee::Ons, 0, 0, r[stated::VC], told)
+    row(rt, month, b"VC", Payee::Ons, 0, 0, r[stated::VC], told)
 }
 
 // A payee's cell for each user.
-fn cells_of(month: i64, payee: Payee, cents: &[i64], told: &[u8]) -> bool {
+fn cells_of<R: io::Print + io::Eprint>(
+    rt: &R,
+    month: i64,
+    payee: Payee,
+    cents: &[i64],
+    told: &str,
+) -> bool {
     let n = cents.len();
     let mut i = 0;
     while i < n {
-        if !row(month, b"cell", payee, i as u64 + 1, 0, cents[i], told) {
+        if !row(rt, month, b"cell", payee, i as u64 + 1, 0, cents[i], told) {
             return false;
         }
         i += 1;
@@ -192,25 +240,39 @@ fn cells_of(month: i64, payee: Payee, cents: &[i64], told: &[u8]) -> bool {
     true
 }
 
-fn cells(month: i64, agents: usize, users: usize, table: &[i64], told: &[u8]) -> bool
+fn cells<R: io::Print + io::Eprint>(
+    rt: &R,
+    month: i64,
+    agents: usize,
+    users: usize,
+    table: &[i64],
+    told: &str,
+) -> bool
     requires { (agents + 1) * users ≤ length table.now }
 {
     let mut i = 0;
     while i < agents {
         let from = i * users;
         let to = from + users;
-        if !cells_of(month, Payee::Agent(i as u64 + 1), &table[from..to], told) {
+        if !cells_of(
+            rt,
+            month,
+            Payee::Agent(i as u64 + 1),
+            &table[from..to],
+            told,
+        ) {
             return false;
         }
         i += 1;
     }
     let from = agents * users;
     let to = from + users;
-    cells_of(month, Payee::Ons, &table[from..to], told)
+    cells_of(rt, month, Payee::Ons, &table[from..to], told)
 }
 
 // One row for each point, each user and each payee, ONS last; the balance; and the table of cells.
-pub(crate) fn month(
+pub(crate) fn month<R: io::Print + io::Eprint>(
+    rt: &R,
     month: i64,
     lines: &[PointLine],
     point_rows: &[PointRow],
@@ -219,24 +281,24 @@ pub(crate) fn month(
     ons_row: PayeeRow,
     balance: i64,
     table: &[i64],
-    told: &[u8],
+    told: &str,
 ) -> bool
     requires { (length point_rows.now ≤ length lines.now) × ((length agent_rows.now + 1) * length user_rows.now ≤ length table.now) }
 {
-    if !points(month, lines, point_rows, told) {
+    if !points(rt, month, lines, point_rows, told) {
         return false;
     }
-    if !users(month, user_rows, told) {
+    if !users(rt, month, user_rows, told) {
         return false;
     }
-    if !agents(month, agent_rows, told) {
+    if !agents(rt, month, agent_rows, told) {
         return false;
     }
-    if !ons(month, ons_row, told) {
+    if !ons(rt, month, ons_row, told) {
         return false;
     }
-    if !row(month, b"SMSE", Payee::Nobody, 0, 0, balance, told) {
+    if !row(rt, month, b"SMSE", Payee::Nobody, 0, 0, balance, told) {
         return false;
     }
-    cells(month, agent_rows.len(), user_rows.len(), table, told)
+    cells(rt, month, agent_rows.len(), user_rows.len(), table, told)
 }

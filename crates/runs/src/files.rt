@@ -7,6 +7,7 @@ use crate::month::Closing;
 use crate::{Print, lines, month};
 use monthfile::reading::{Header, Reading};
 use rules::{AgentLine, Answer, Ledger, Outcome, PointLine, UserLine};
+use std::io;
 
 // The ledger, once the first file has opened it.
 #[derive(Drop)]
@@ -84,7 +85,8 @@ fn going_on(next: usize, c: Closing) -> Step
 }
 
 // Closes the month of a file that was read.
-fn close_file(
+fn close_file<R: io::Print + io::Eprint>(
+    rt: &R,
     print: Print,
     h: Header,
     ledger: Ledger,
@@ -94,7 +96,7 @@ fn close_file(
     held: &mut [i64],
     cells: &mut [i64],
     work: &mut [u64],
-    told: &[u8],
+    told: &str,
 ) -> Step
     requires { Lies h agents.now users.now points.now held.old cells.old }
     ensures { GoesTo h.next result }
@@ -104,6 +106,7 @@ fn close_file(
     let p = h.points;
     let line = h.line;
     let c = month::close(
+        rt,
         print,
         ledger,
         held,
@@ -119,7 +122,8 @@ fn close_file(
 }
 
 // One file.
-fn file(
+fn file<R: io::Print + io::Eprint>(
+    rt: &R,
     print: Print,
     text: &[u8],
     at: usize,
@@ -130,7 +134,7 @@ fn file(
     held: &mut [i64],
     cells: &mut [i64],
     work: &mut [u64],
-    told: &[u8],
+    told: &str,
 ) -> Step
     requires { Buffers agents.old users.old points.old held.old cells.old }
     ensures { GoesOn at (length text.now) result }
@@ -138,19 +142,20 @@ fn file(
     let begun = read_and_open(text, at, books, agents, users, points, held);
     match begun {
         Begun::Refused(number, place) => {
-            lines::refused(number, place, told);
+            lines::refused(rt, number, place, told);
             Step::Over
         }
         Begun::File(h, ledger) => {
             close_file(
-                print, h, ledger, agents, users, points, held, cells, work, told,
+                rt, print, h, ledger, agents, users, points, held, cells, work, told,
             )
         }
     }
 }
 
 // Files up to the end of the text. Each begins further on than the one before, so that the run ends.
-fn files(
+fn files<R: io::Print + io::Eprint>(
+    rt: &R,
     print: Print,
     text: &[u8],
     agents: &mut [AgentLine],
@@ -159,7 +164,7 @@ fn files(
     held: &mut [i64],
     cells: &mut [i64],
     work: &mut [u64],
-    told: &[u8],
+    told: &str,
 )
     requires { Buffers agents.old users.old points.old held.old cells.old }
 {
@@ -167,7 +172,7 @@ fn files(
     let mut books = Books::Shut;
     loop {
         let step = file(
-            print, text, at, books, agents, users, points, held, cells, work, told,
+            rt, print, text, at, books, agents, users, points, held, cells, work, told,
         );
         match step {
             Step::Over => return,
@@ -183,7 +188,7 @@ fn files(
 }
 
 // The buffers: 16 agents, 64 users with their held credits, 256 points, 17 × 64 cells, and twice that plus 4 × (17 + 64) entries of work.
-pub(crate) fn all_files(print: Print, text: &[u8], told: &[u8]) {
+pub(crate) fn all_files<R: io::Print + io::Eprint>(rt: &R, print: Print, text: &[u8], told: &str) {
     let mut agents = [[0i64; 7]; 16];
     let mut users = [[0i64; 4]; 64];
     let mut points = [[0i64; 9]; 256];
@@ -191,6 +196,7 @@ pub(crate) fn all_files(print: Print, text: &[u8], told: &[u8]) {
     let mut cells = [0i64; 1088];
     let mut work = [0u64; 2500];
     files(
+        rt,
         print,
         text,
         &mut agents,

@@ -2,7 +2,9 @@
 ghost use Rattle.std.specs.Prelude.{◌≡◌, length};
 ghost use Rattle.runs.specs.Runs.{InputWithin};
 
-use libc::STDIN_FILENO;
+use crate::lines;
+use std::io;
+use std::io::Read;
 
 // One byte more than the program takes, so that an input that is too long fills it.
 pub(crate) fn buffer() -> [u8; 32769]
@@ -20,22 +22,21 @@ pub enum Input {
 }
 
 // `told` is what is said of a read that fails.
-pub(crate) fn read_all(text: &mut [u8], told: &[u8]) -> Input
+pub(crate) fn read_all<R: io::Input + io::Eprint>(rt: &R, text: &mut [u8], told: &str) -> Input
     ensures { InputWithin (length text.new) result }
 {
+    let mut reader = rt.reader();
     let most = text.len();
     let mut n = 0;
     while n < most {
-        let got = libc::read(STDIN_FILENO, &mut text[n..]);
-        if got < 0 {
-            os::fail(told);
-            return Input::Failed;
+        match reader.read(&mut text[n..]) {
+            Ok(0) => return Input::Text(n),
+            Ok(more) => n += more,
+            Err(error) => {
+                lines::tell(rt, told, error);
+                return Input::Failed;
+            }
         }
-        let more = io::count(got, &text[n..]);
-        if more == 0 {
-            return Input::Text(n);
-        }
-        n += more;
     }
     Input::Over
 }

@@ -17,6 +17,7 @@ mod rows;
 mod table;
 
 use crate::input::Input;
+use std::io;
 
 // What is printed of a closed month: its cells and the new held credits, or every amount.
 #[derive(Clone, Copy)]
@@ -26,16 +27,22 @@ pub enum Print {
 }
 
 // A whole run: the names, then what is printed of each month. `reads` and `writes` are what is said of a read and of a write that fails.
-pub fn run(print: Print, names: &[u8], reads: &[u8], writes: &[u8]) {
-    if !lines::write(names, writes) {
+pub fn run<R: io::Input + io::Print + io::Eprint>(
+    rt: &R,
+    print: Print,
+    names: &[u8],
+    reads: &str,
+    writes: &str,
+) {
+    if !lines::write(rt, names, writes) {
         return;
     }
     let mut text = input::buffer();
-    let got = input::read_all(&mut text, reads);
+    let got = input::read_all(rt, &mut text, reads);
     match got {
-        Input::Text(n) => files::all_files(print, &text[..n], writes),
+        Input::Text(n) => files::all_files(rt, print, &text[..n], writes),
         Input::Over => {
-            lines::refused(12, 0, writes);
+            lines::refused(rt, 12, 0, writes);
         }
         Input::Failed => {}
     }

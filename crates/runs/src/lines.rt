@@ -2,15 +2,23 @@
 // told, and answered by false.
 ghost use Rattle.std.specs.Prelude.{◌≡◌, ◌+◌, ◌≤◌, length};
 
-use libc::STDOUT_FILENO;
+use itoa::Buffer;
+use std::io;
 
 // Writes a whole line; `told` is what is said of a write that fails.
-pub(crate) fn write(text: &[u8], told: &[u8]) -> bool {
-    if io::write_all(STDOUT_FILENO, text) {
-        return true;
+pub(crate) fn write<R: io::Print + io::Eprint>(rt: &R, text: &[u8], told: &str) -> bool {
+    match rt.write_all(text) {
+        Ok(()) => true,
+        Err(error) => {
+            tell(rt, told, error);
+            false
+        }
     }
-    os::fail(told);
-    false
+}
+
+// Says on standard error what failed, and why; a failure to say so is not told.
+pub(crate) fn tell<R: io::Eprint>(rt: &R, told: &str, error: io::Error) {
+    let _ = eprintln!(rt; "{told}: {error}");
 }
 
 // Each of these puts its text at the place `at` of a line, and answers the place after it.
@@ -31,9 +39,8 @@ pub(crate) fn put_number(line: &mut [u8], at: usize, n: u64) -> usize
     requires { at + 20 ≤ length line.old }
     ensures { result ≤ at + 20 }
 {
-    let mut digits = [0u8; 20];
-    let k = io::decimal(n, &mut digits);
-    put(line, at, &digits[..k])
+    let mut digits = Buffer::new();
+    put(line, at, digits.format(n).as_bytes())
 }
 
 // An amount without its sign, also that of the least.
@@ -67,8 +74,13 @@ pub(crate) fn put_refused(line: &mut [u8], number: u64, place: u64) -> usize
     put(line, d, b"\n")
 }
 
-pub(crate) fn refused(number: u64, place: u64, told: &[u8]) -> bool {
+pub(crate) fn refused<R: io::Print + io::Eprint>(
+    rt: &R,
+    number: u64,
+    place: u64,
+    told: &str,
+) -> bool {
     let mut line = [0u8; 50];
     let n = put_refused(&mut line, number, place);
-    write(&line[..n], told)
+    write(rt, &line[..n], told)
 }

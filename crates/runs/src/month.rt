@@ -5,6 +5,7 @@ ghost use Rattle.runs.specs.Runs.{Buffers, Rows};
 use crate::{Print, amounts, lines, table};
 use rules::{AgentLine, Answer, Ledger, MonthLine, PointLine, UserLine};
 use statement::{PayeeRow, PointRow, UserRow};
+use std::io;
 
 // What came of a month: whether all was written, and the ledger that holds from then on.
 #[derive(Drop)]
@@ -14,7 +15,8 @@ pub struct Closing {
 }
 
 // Closes the month, and prints its cells and the new held credits.
-fn close_table(
+fn close_table<R: io::Print + io::Eprint>(
+    rt: &R,
     ledger: Ledger,
     held: &mut [i64],
     line: MonthLine,
@@ -23,7 +25,7 @@ fn close_table(
     points: &[PointLine],
     cells: &mut [i64],
     work: &mut [u64],
-    told: &[u8],
+    told: &str,
 ) -> Closing
     requires { Buffers agents.now users.now points.now held.old cells.old }
 {
@@ -31,9 +33,9 @@ fn close_table(
     let answer = o.answer;
     let written = match answer {
         Answer::Accepted => {
-            table::month(line.month, agents.len(), users.len(), cells, held, told)
+            table::month(rt, line.month, agents.len(), users.len(), cells, held, told)
         }
-        Answer::Refused(number, place) => lines::refused(number, place, told),
+        Answer::Refused(number, place) => lines::refused(rt, number, place, told),
     };
     let after = o.ledger;
     Closing {
@@ -43,7 +45,8 @@ fn close_table(
 }
 
 // What a closing answered: every amount of the month, or why it is refused.
-fn print_amounts(
+fn print_amounts<R: io::Print + io::Eprint>(
+    rt: &R,
     answer: Answer,
     month: i64,
     points: &[PointLine],
@@ -53,15 +56,16 @@ fn print_amounts(
     agents: usize,
     balance: i64,
     cells: &[i64],
-    told: &[u8],
+    told: &str,
 ) -> bool
     requires { Rows agents points.now point_rows.now user_rows.now payee_rows.now cells.now }
 {
     match answer {
-        Answer::Refused(number, place) => lines::refused(number, place, told),
+        Answer::Refused(number, place) => lines::refused(rt, number, place, told),
         Answer::Accepted => {
             let ons = payee_rows[agents];
             amounts::month(
+                rt,
                 month,
                 points,
                 point_rows,
@@ -78,7 +82,8 @@ fn print_amounts(
 
 // States the month with the credits held before it, closes it, and prints every amount; the closing's answer decides. There is a row for
 // each point, each user and each payee.
-fn state_and_close(
+fn state_and_close<R: io::Print + io::Eprint>(
+    rt: &R,
     ledger: Ledger,
     held: &mut [i64],
     line: MonthLine,
@@ -90,7 +95,7 @@ fn state_and_close(
     payee_rows: &mut [PayeeRow],
     cells: &mut [i64],
     work: &mut [u64],
-    told: &[u8],
+    told: &str,
 ) -> Closing
     requires { Rows (length agents.now) points.now point_rows.old user_rows.old payee_rows.old cells.old }
 {
@@ -100,6 +105,7 @@ fn state_and_close(
     let o = ledger::close_lines(ledger, held, line, agents, users, points, cells, work);
     let answer = o.answer;
     let written = print_amounts(
+        rt,
         answer,
         line.month,
         points,
@@ -119,7 +125,8 @@ fn state_and_close(
 }
 
 // With room for the rows of 256 points, 64 users and 17 payees.
-fn close_amounts(
+fn close_amounts<R: io::Print + io::Eprint>(
+    rt: &R,
     ledger: Ledger,
     held: &mut [i64],
     line: MonthLine,
@@ -128,7 +135,7 @@ fn close_amounts(
     points: &[PointLine],
     cells: &mut [i64],
     work: &mut [u64],
-    told: &[u8],
+    told: &str,
 ) -> Closing
     requires { Buffers agents.now users.now points.now held.old cells.old }
 {
@@ -139,6 +146,7 @@ fn close_amounts(
     let mut user_rows = [[0i64; 10]; 64];
     let mut payee_rows = [[0i64; 6]; 17];
     state_and_close(
+        rt,
         ledger,
         held,
         line,
@@ -155,7 +163,8 @@ fn close_amounts(
 }
 
 // Closes a month and prints of it what is asked for.
-pub(crate) fn close(
+pub(crate) fn close<R: io::Print + io::Eprint>(
+    rt: &R,
     print: Print,
     ledger: Ledger,
     held: &mut [i64],
@@ -165,14 +174,18 @@ pub(crate) fn close(
     points: &[PointLine],
     cells: &mut [i64],
     work: &mut [u64],
-    told: &[u8],
+    told: &str,
 ) -> Closing
     requires { Buffers agents.now users.now points.now held.old cells.old }
 {
     match print {
-        Print::Table => close_table(ledger, held, line, agents, users, points, cells, work, told),
+        Print::Table => close_table(
+            rt, ledger, held, line, agents, users, points, cells, work, told,
+        ),
         Print::Amounts => {
-            close_amounts(ledger, held, line, agents, users, points, cells, work, told)
+            close_amounts(
+                rt, ledger, held, line, agents, users, points, cells, work, told,
+            )
         }
     }
 }

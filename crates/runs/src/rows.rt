@@ -2,6 +2,7 @@
 ghost use Rattle.std.specs.Prelude.{◌+◌, ◌≤◌, length};
 
 use crate::lines;
+use std::io;
 
 // The longest line has two amounts of at most 21 bytes, an item of 11, three numbers of at most 20 digits, five commas and its end.
 const LONGEST: usize = 119;
@@ -72,18 +73,19 @@ fn put_row(
 }
 
 // `told` is what is said of a write that fails.
-pub(crate) fn row(
+pub(crate) fn row<R: io::Print + io::Eprint>(
+    rt: &R,
     month: i64,
     item: &[u8],
     payee: Payee,
     user: u64,
     point: u64,
     cents: i64,
-    told: &[u8],
+    told: &str,
 ) -> bool
     requires { length item.now ≤ 11 }
 {
     let mut line = [0u8; LONGEST];
     let n = put_row(&mut line, month, item, payee, user, point, cents);
-    lines::write(&line[..n], told)
+    lines::write(rt, &line[..n], told)
 }

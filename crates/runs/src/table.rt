@@ -3,6 +3,7 @@
 ghost use Rattle.std.specs.Prelude.{◌+◌, ◌*◌, ◌≤◌, length};
 
 use crate::lines;
+use std::io;
 
 // The longest line has four numbers of at most 20 digits, two of them with a sign, three commas and its end.
 const LONGEST: usize = 96;
@@ -27,7 +28,14 @@ fn put_payee(line: &mut [u8], at: usize, payee: Payee) -> usize
     }
 }
 
-fn amount(month: i64, payee: Payee, user: u64, cents: i64, told: &[u8]) -> bool {
+fn amount<R: io::Print + io::Eprint>(
+    rt: &R,
+    month: i64,
+    payee: Payee,
+    user: u64,
+    cents: i64,
+    told: &str,
+) -> bool {
     let mut line = [0u8; LONGEST];
     let a = lines::put_amount(&mut line, 0, month);
     let b = lines::put(&mut line, a, b",");
@@ -37,15 +45,21 @@ fn amount(month: i64, payee: Payee, user: u64, cents: i64, told: &[u8]) -> bool 
     let f = lines::put(&mut line, e, b",");
     let g = lines::put_amount(&mut line, f, cents);
     let h = lines::put(&mut line, g, b"\n");
-    lines::write(&line[..h], told)
+    lines::write(rt, &line[..h], told)
 }
 
 // A payee's line for each user.
-fn row(month: i64, payee: Payee, cents: &[i64], told: &[u8]) -> bool {
+fn row<R: io::Print + io::Eprint>(
+    rt: &R,
+    month: i64,
+    payee: Payee,
+    cents: &[i64],
+    told: &str,
+) -> bool {
     let n = cents.len();
     let mut i = 0;
     while i < n {
-        if !amount(month, payee, i as u64 + 1, cents[i], told) {
+        if !amount(rt, month, payee, i as u64 + 1, cents[i], told) {
             return false;
         }
         i += 1;
@@ -53,13 +67,14 @@ fn row(month: i64, payee: Payee, cents: &[i64], told: &[u8]) -> bool {
     true
 }
 
-pub(crate) fn month(
+pub(crate) fn month<R: io::Print + io::Eprint>(
+    rt: &R,
     month: i64,
     agents: usize,
     users: usize,
     cells: &[i64],
     held: &[i64],
-    told: &[u8],
+    told: &str,
 ) -> bool
     requires { ((agents + 1) * users ≤ length cells.now) × (users ≤ length held.now) }
 {
@@ -67,15 +82,21 @@ pub(crate) fn month(
     while i < agents {
         let from = i * users;
         let to = from + users;
-        if !row(month, Payee::Agent(i as u64 + 1), &cells[from..to], told) {
+        if !row(
+            rt,
+            month,
+            Payee::Agent(i as u64 + 1),
+            &cells[from..to],
+            told,
+        ) {
             return false;
         }
         i += 1;
     }
     let from = agents * users;
     let to = from + users;
-    if !row(month, Payee::Ons, &cells[from..to], told) {
+    if !row(rt, month, Payee::Ons, &cells[from..to], told) {
         return false;
     }
-    row(month, Payee::Held, &held[..users], told)
+    row(rt, month, Payee::Held, &held[..users], told)
 }

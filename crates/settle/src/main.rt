@@ -4,11 +4,12 @@
 
 use runs::Print;
 
-fn main() {
+fn main(rt: HostRuntime) {
     runs::run(
+        &rt,
         Print::Table,
         b"month,payee,user,cents\n",
-        b"settle: standard input",
-        b"settle: standard output",
+        "settle: standard input",
+        "settle: standard output",
     );
 }

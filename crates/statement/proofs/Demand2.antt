@@ -1,11 +1,11 @@
 -- DEMAND 2 of the statement (paper 01, "Charges of a user" and "Credits of a payee"), over what a caller learns from the checked contracts
 -- of `state` and `state_lines`: of an accepted month every amount is the definition's. Nothing else is assumed.
 use Prim.Native.Nat.{ℕ, ◌+◌}
-use mathlib.Core.Path.{◌≡◌, sym, ap, ◌∙◌}
+use mathlib.Core.Path.{◌≡◌, ap, ◌∙◌}
 use mathlib.Core.List.{List, ◌++◌}
 use lib.IntN.{ℤ}
 use lib.ListN.{length, take, drop}
-use lib.Seq.{take_at, length-take-le}
+use lib.Seq.{take_at}
 use Rattle.rules.specs.declared.Answer.TheVariants.{Accepted}
 use Rattle.rules.specs.State.{State}
 use Rattle.rules.specs.Calls.{state_of}

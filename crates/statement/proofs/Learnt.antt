@@ -10,10 +10,10 @@ use Rattle.records.proofs.Learnt.{Ensures, Reading, LearntBy, Plain, Tells}
 use Rattle.statement.specs.contracts.state as state
 
 abbrev pub required : (κs : Lfts (state.signature).lifetimes) → Args state.signature κs → (w : World) → Pr w
-required κs a w = (state.clauses w.𝓛 w.𝓜.mem w.𝓡.run κs a).requires tt
+required κs a w = (state.clauses w.𝓛 w.𝓜.mem w.𝓡.returns κs a).requires tt
 
 abbrev pub ensured : Ensures state.ended
-ensured κs a r e w = (state.clauses w.𝓛 w.𝓜.mem w.𝓡.run κs a).ensures tt r e
+ensured κs a r e w = (state.clauses w.𝓛 w.𝓜.mem w.𝓡.returns κs a).ensures tt r e
 
 abbrev pub reading : Reading state.ended ensured
 reading κs a r e = all_models (ensured κs a r e) (λ w. r_last _) (λ w. refl) (λ w. refl) (λ w. refl)

@@ -1,15 +1,14 @@
 -- DEMAND 1 of one statement that kept its promise `States`; of an accepted one, what it wrote. Assumes nothing else.
 use Prim.Native.Nat.{ℕ, ◌+◌, ◌≤◌}
-use mathlib.Core.Path.{◌≡◌, sym, ap, ap₂, ◌∙◌}
+use mathlib.Core.Path.{◌≡◌, sym, ap, ◌∙◌}
 use mathlib.Core.List.{List, [], ◌∷◌, ◌++◌}
 use native.Mathlib.Omega.{arith}
 use lib.IntN.{ℤ}
 use lib.ListN.{length, drop, length-map, length-append}
 use lib.Seq.{drop_at, length-take-le}
-use Rattle.rules.specs.declared.Answer.TheVariants.{Accepted, Refused}
+use Rattle.rules.specs.declared.Answer.TheVariants.{Accepted}
 use Rattle.rules.specs.Verdict.{Verdict, accepted}
 use Rattle.rules.specs.Lines.{Agent}
-use Rattle.rules.specs.Charges.{VDs}
 use Rattle.rules.specs.Credits.{VMANTs, agent_VCs}
 use Rattle.ints.specs.Sums.{sum_ℤ}
 use Rattle.rules.specs.Lists.{length_each_from}
@@ -26,7 +25,7 @@ use Rattle.rules.proofs.Demand1.{answered, same_length}
 use Rattle.statement.specs.declared.Stated.{Stated}
 use Rattle.statement.specs.Statement.{RowRooms, short_rooms, short_of, point_row, point_rows, user_rows_of, user_rows, agent_rows_of, ons_row, payee_rows_from}
 use Rattle.statement.specs.Statement.{payee_rows, StatedMonth, States}
-use Rattle.statement.specs.Demand1.{row_rooms, StateCall, Unchanged, Beyond, Demand1Stating}
+use Rattle.statement.specs.Demand1.{row_rooms, StateCall, Beyond, Demand1Stating}
 
 rooms_agree : (s : State) (n : RowRooms) (points : ℕ) → Agrees (row_rooms s n points) (short_rooms s n points)
 unfolding short_rooms
