@@ -120,10 +120,9 @@ fn write(
 {
     points::rows(users, points, point_rows);
     let pv = credits::columns::pv_total(agents);
-    let total = bills.total;
     users::state_users(users, s, bills, pv, held, user_rows);
     let direct = charges::direct::total(users);
-    payees::state_payees(total, ledger.month, line, agents, direct, payee_rows)
+    payees::state_payees(bills.total, ledger.month, line, agents, direct, payee_rows)
 }
 
 // The month whose first 1,024 points are these lines; n counts all of them.
@@ -156,15 +155,7 @@ fn state_first(
         payee_rows.len() as u64,
     );
     let s = charges::scan::scan(points, users);
-    // judging takes its sums for good, and writing needs them too
-    let uses = s.uses;
-    let overruns = s.overruns;
-    let again = Sums {
-        verdict: s.verdict,
-        uses,
-        overruns,
-    };
-    let found = closing::judge::judge(first, ledger, held, line, agents, users, again);
+    let found = closing::judge::judge(first, ledger, held, line, agents, users, s);
     let verdict = found.verdict;
     match verdict {
         Answer::Refused(number, place) => Stated {
