@@ -1,7 +1,6 @@
+-- The three tests in turn.
 use Rattle.std.proofs.Common.{to_z-of_z}
 use Rattle.share.proofs.bad_sums.Goals as goal
-
--- The three tests in turn.
 
 pub returns-then-before-lt0 : goal.returns-then-before-lt0
 returns-then-before-lt0 c =

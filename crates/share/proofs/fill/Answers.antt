@@ -13,9 +13,6 @@ use Rattle.share.proofs.fill.Goals as goal
 use Rattle.share.proofs.fill.Invariants.{Turn}
 use Rattle.share.proofs.fill.Goals.{After-floor_of-upper, After-through-1, Start}
 
--- The loop's turn in plain numbers: the next weight sum lies between 0 and W, so its floor is no larger than the amount, and the
--- difference of the two floors is the next part.
-
 module _ {P W : ℤ} {ws old : List ℤ} (f : Fillable P W ws old) where
   above_zero : pos 0 <ℤ W
   above_zero = omega (za, f.some)

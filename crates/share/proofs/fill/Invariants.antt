@@ -1,3 +1,5 @@
+-- The loop's turn in plain numbers: the next weight sum lies between 0 and W, so its floor is no larger than the amount, and the
+-- difference of the two floors is the next part.
 use Rattle.std.proofs.Common.{◌≡◌, ℕ, ◌-◌, ◌≤◌, List, length, take, ℤ, ◌*ℤ◌}
 use Rattle.ints.specs.Fill.{filled}
 use Rattle.ints.specs.Floor.{floor}

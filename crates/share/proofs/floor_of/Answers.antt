@@ -1,3 +1,4 @@
+-- A size goes through the natural quotient q and remainder m; below 0 the floor is −q, or one less where m is not 0.
 use Rattle.std.proofs.Common.{◌≡◌, ℕ, zero, suc, ◌+◌, ◌*◌, ◌<◌, ◌≤◌, cond, eqb, ℤ, pos, ◌-ℤ◌, ◌*ℤ◌, ap, ◌∙◌, le_trans, mod-lt, mul-le-mul_left, div-add-mod', le_of_mul-le-mul_right, arith, to_z-of_z, w64, SFits, to_z, ne_eqb}
 use mir.Facts.{to_z_pos}
 use Rattle.ints.specs.Bridge.{up, dn, abs, za, sub#, mul#, one#}
@@ -7,8 +8,6 @@ use Rattle.wide.specs.declared.Divided.{Divided}
 use Rattle.wide.specs.Exact.{divided}
 use Rattle.share.proofs.floor_of.Goals as goal
 use Rattle.share.proofs.floor_of.Goals.{After-raised-up, After-scaled-d, After-size, Else-p-lt0, Then-p-lt0}
-
--- A size goes through the natural quotient q and remainder m; below 0 the floor is −q, or one less where m is not 0.
 
 -- ---- the answers, in plain numbers
 above : (p : ℤ) (t w q m : ℕ) → dn p ≡ 0 → q * w + m ≡ abs p * t → m < w → pos q ≡ floor (p *ℤ pos t) (pos w)

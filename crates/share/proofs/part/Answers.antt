@@ -1,3 +1,4 @@
+-- The refusals in their order; past them both floors are no larger than the amount, so their difference is a word.
 use Rattle.std.proofs.Common.{◌≡◌, ℕ, ◌<◌, ◌≤◌, true, false, T, ℤ, pos, ◌-ℤ◌, ◌*ℤ◌, nat_abs, ◌≤ℤ◌, sym, ◌∙◌, le_trans, to_z-of_z, w64, Fits, SFits}
 use lib.Signed.{non_neg}
 use Rattle.ints.specs.Bridge.{abs, abs_is, za, sub#, above#}
@@ -10,8 +11,6 @@ use Rattle.share.specs.Limits.{TotalWithin, SumsWithin}
 use Rattle.share.proofs.Limits.{sums_within}
 use Rattle.share.proofs.part.Goals as goal
 use Rattle.share.proofs.part.Goals.{After-bad_sums, After-floor_of-lower, After-floor_of-upper, Else-bad_sums, Else-outside, Else-outside-2, Start}
-
--- The refusals in their order; past them both floors are no larger than the amount, so their difference is a word.
 
 module _ (P b t W : ℤ) where
   amount_refused : bad_amount P ≡ true → sharing P b t W ≡ refuses 5 1

@@ -1,7 +1,6 @@
+-- The two cases of the remainder.
 use Rattle.std.proofs.Common.{ne_eqb}
 use Rattle.share.proofs.raised.Goals as goal
-
--- The two cases of the remainder.
 
 pub returns-then-d-eq0 : goal.returns-then-d-eq0
 returns-then-d-eq0 c = rw c.if-d-eq0.true

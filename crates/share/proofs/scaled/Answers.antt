@@ -1,3 +1,4 @@
+-- t is at most w, so the quotient of a × t by w is at most a and fits a word.
 use Rattle.std.proofs.Common.{◌≡◌, ℕ, ◌*◌, ◌/◌, ◌^◌, ◌<◌, ◌≤◌, sym, ◌∙◌, lt_of_le_of_lt, div-lt_iff_lt-mul, mul-le-mul_left, mul-lt-mul_of_pos_right, arith}
 use Rattle.wide.specs.declared.Divided.{Divided}
 use Rattle.wide.specs.declared.Ratio.TheVariants.{Exact, Over, ByZero}
@@ -5,8 +6,6 @@ use Rattle.wide.specs.Exact.{divided}
 use Rattle.wide.proofs.Laws.{ratio_exact}
 use Rattle.share.proofs.scaled.Goals as goal
 use Rattle.share.proofs.scaled.Goals.{After-of_product-r}
-
--- t is at most w, so the quotient of a × t by w is at most a and fits a word.
 
 quot_lt : (a t w : ℕ) → a < 2 ^ 64 → t ≤ w → 0 < w → a * t / w < 2 ^ 64
 quot_lt a t w h k z = (div-lt_iff_lt-mul z).1 (lt_of_le_of_lt (mul-le-mul_left a k) (mul-lt-mul_of_pos_right h z))

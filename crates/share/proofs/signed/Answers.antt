@@ -1,3 +1,4 @@
+-- The quotient q and the remainder m are of the size; below 0 the floor is −q and nothing is left, or −q − 1 and w − m is left.
 use Rattle.std.proofs.Common.{◌≡◌, ℕ, ◌+◌, ◌-◌, ◌*◌, ◌<◌, ◌≤◌, ℤ, pos, ◌-ℤ◌, ◌*ℤ◌, ap, le_trans, mod-lt, pos_of_ne-zero, mul-le-mul_left, div-add-mod', le_of_mul-le-mul_right, arith, to_z-of_z, w64, SFits, to_z}
 use mir.Facts.{to_z_pos}
 use Rattle.ints.specs.Bridge.{up, dn, abs, za, sub#, mul#, one#}
@@ -7,8 +8,6 @@ use Rattle.wide.specs.declared.Divided.{Divided}
 use Rattle.wide.specs.Exact.{divided}
 use Rattle.share.proofs.signed.Goals as goal
 use Rattle.share.proofs.signed.Goals.{Else-p-lt0, Start, Then-p-lt0}
-
--- The quotient q and the remainder m are of the size; below 0 the floor is −q and nothing is left, or −q − 1 and w − m is left.
 
 -- ---- the three answers, in plain numbers
 above : (p : ℤ) (t w q m : ℕ) → dn p ≡ 0 → q * w + m ≡ up p * t → m < w → Split (p *ℤ pos t) w (pos q) m

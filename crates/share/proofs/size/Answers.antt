@@ -1,10 +1,9 @@
+-- Either side of the test.
 use Rattle.std.proofs.Common.{◌≡◌, pos, ◌-ℤ◌, sym, arith, to_z-of_z, w64, SFits}
 use Rattle.ints.specs.Bridge.{up, dn, abs_is, za, sub#, one#}
 use Rattle.ints.specs.Words.{back#}
 use Rattle.share.proofs.size.Goals as goal
 use Rattle.share.proofs.size.Goals.{Else-p-lt0, Then-p-lt0}
-
--- Either side of the test.
 
 below_zero : (c : Then-p-lt0) → up c.args.p ≡ 0
 below_zero c = omega (za, back# c.ranges.p, one# c.args.p)

@@ -1,11 +1,10 @@
+-- A product of one word as it stands; else the whole's share and the part's.
 use Rattle.std.proofs.Common.{◌≡◌, ℕ, ◌+◌, ◌*◌, ◌<◌, sym, refl, ap, ◌∙◌, mod-lt, div-add-mod', arith}
 use Rattle.wide.specs.declared.Words.{Words}
 use Rattle.wide.specs.Exact.{divided}
 use Rattle.share.specs.Rate.{one_word, share_le, divided_is}
 use Rattle.share.proofs.weights.at_rate.Goals as goal
 use Rattle.share.proofs.weights.at_rate.Goals.{After-part_at-d}
-
--- A product of one word as it stands; else the whole's share and the part's.
 
 -- the part's quotient and remainder
 part : (c : After-part_at-d) → let s = c.before.before.before.before in let d = c.part_at-d.result in

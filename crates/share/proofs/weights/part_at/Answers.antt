@@ -1,10 +1,9 @@
+-- The three products; the low words' difference is what the estimate leaves.
 use Rattle.std.proofs.Common.{◌≡◌, ℕ, ◌+◌, ◌-◌, ◌*◌, ◌<◌, ◌≤◌, refl, ap, arith, w64, Fits}
 use Rattle.wide.specs.declared.Words.{Words}
 use Rattle.share.specs.Rate.{Near, near, high_le, wrapped, divided_is}
 use Rattle.share.proofs.weights.part_at.Goals as goal
 use Rattle.share.proofs.weights.part_at.Goals.{After-multiply-q, After-wrapping_sub_u64-r}
-
--- The three products; the low words' difference is what the estimate leaves.
 
 -- the estimate, and the difference
 close_by : (c : After-multiply-q) → Near (c.args.part * c.args.t) c.args.w c.multiply-q.result.high

@@ -1,7 +1,6 @@
+-- Quotient, remainder, and the remainder's fraction.
 use Rattle.std.proofs.Common.{◌≡◌, ◌+◌, ◌*◌, ◌%◌, ◌<◌, sym, refl, mod-lt, div-add-mod', arith}
 use Rattle.share.proofs.weights.rate_of.Goals as goal
-
--- Quotient, remainder, and the remainder's fraction.
 
 pub scaled-d-requires : goal.scaled-d-requires
 scaled-d-requires c = (omega (arith, mod-lt c.args.size c.requires.0), c.requires.0)

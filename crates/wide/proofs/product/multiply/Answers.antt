@@ -1,9 +1,8 @@
+-- a × b = a1·b1·2^64 + (a0·b1 + a1·b0)·2^32 + a0·b0, and the columns with their carries add up to that.
 use Rattle.std.proofs.Common.{◌≡◌, ℕ, ◌+◌, ◌*◌, ◌/◌, ◌%◌, ◌^◌, ◌<◌, ◌≤◌, ap, ◌∙◌, ap₂, mod-lt, mul-le-mul, div-add-mod', arith, pow_pos}
 use mathlib.Core.Path.{subst⁻¹}
 use Rattle.wide.proofs.Laws.{words_is}
 use Rattle.wide.proofs.product.multiply.Goals as goal
-
--- a × b = a1·b1·2^64 + (a0·b1 + a1·b0)·2^32 + a0·b0, and the columns with their carries add up to that.
 
 -- the largest product of two halves, (2^32 − 1)²
 abbrev K : ℕ

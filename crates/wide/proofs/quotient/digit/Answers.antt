@@ -1,12 +1,11 @@
+-- With v = v1·2^29 + v0 and h = q·v1 + t, the dividend and p = q·v0 make q·v and m = t·2^29 + d: so q is the quotient, or one more where
+-- p passes m, which it does by less than v.
 use Rattle.std.proofs.Common.{◌≡◌, ℕ, ◌+◌, ◌-◌, ◌*◌, ◌/◌, ◌%◌, ◌^◌, ◌<◌, ◌≤◌, ap, lt_of_le_of_lt, mul-le-mul_right, mod-lt, mul-le-mul, div-add-mod', sub-le, arith}
 use native.Mathlib.Decide.{dec_le}
 use lib.Bits.{bit_and, and_mask}
 use Rattle.wide.proofs.Laws.{divided_is}
 use Rattle.wide.proofs.quotient.digit.Goals as goal
 use Rattle.wide.proofs.quotient.digit.Goals.{Start}
-
--- With v = v1·2^29 + v0 and h = q·v1 + t, the dividend and p = q·v0 make q·v and m = t·2^29 + d: so q is the quotient, or one more where
--- p passes m, which it does by less than v.
 
 -- a step's numbers: v in its upper and lower bits, h by the upper
 record Step (h d v v1 v0 q t : ℕ) : Type 0 where

@@ -1,3 +1,4 @@
+-- A short quotient is two digits of the two words as they stand; a longer one is that of all but the last 6 bits, and then of those.
 use Rattle.std.proofs.Common.{◌≡◌, ℕ, ◌+◌, ◌*◌, ◌/◌, ◌^◌, ◌<◌, ◌≤◌, ap, ◌∙◌, arith}
 use lib.Bits.{bit_and, and_mask}
 use mir.Facts.{Fits-cat, Fits-shl}
@@ -5,8 +6,6 @@ use Rattle.wide.specs.Exact.{divided}
 use Rattle.wide.proofs.Laws.{Divides, divides, quot_lt, next_digits, divided_is}
 use Rattle.wide.proofs.quotient.normal.Goals as goal
 use Rattle.wide.proofs.quotient.normal.Goals.{After-two_digits-first, After-two_digits-second, Then-high-v}
-
--- A short quotient is two digits of the two words as they stand; a longer one is that of all but the last 6 bits, and then of those.
 
 positive : (v : ℕ) → 2 ^ 63 ≤ v → 0 < v
 positive v h = omega arith

@@ -1,3 +1,4 @@
+-- The quotient fits a word exactly where the product's high word is below the divisor.
 use Rattle.std.proofs.Common.{◌≡◌, ℕ, ◌+◌, ◌*◌, ◌/◌, ◌^◌, ◌<◌, ◌≤◌, sym, ap, ◌∙◌, subst, lt_of_le_of_lt, div-lt_iff_lt-mul, pos_of_ne-zero, div-add-mod', le-div_iff_mul-le, div-le_self, arith, w64, Fits, rules}
 use Rattle.wide.specs.declared.Words.{Words}
 use Rattle.wide.specs.declared.Ratio.TheVariants.{Exact}
@@ -5,8 +6,6 @@ use Rattle.wide.specs.Exact.{divided, ratio, words}
 use Rattle.wide.proofs.Laws.{ratio_by_zero, ratio_exact, ratio_over}
 use Rattle.wide.proofs.quotient.of_product.Goals as goal
 use Rattle.wide.proofs.quotient.of_product.Goals.{Else-c-eq0}
-
--- The quotient fits a word exactly where the product's high word is below the divisor.
 
 -- a number by its two words
 number : (n : ℕ) (w : Words) → w ≡ words n → w.high * 2 ^ 64 + w.low ≡ n

@@ -1,11 +1,10 @@
+-- Two steps of long division: the first digit's remainder goes before the second.
 use Rattle.std.proofs.Common.{◌≡◌, ℕ, ◌+◌, ◌*◌, ◌/◌, ◌^◌, ◌<◌, ◌≤◌, ◌∙◌, arith}
 use lib.Bits.{bit_and, and_mask}
 use mir.Facts.{Fits-cat, Fits-shl}
 use Rattle.wide.proofs.Laws.{Divides, divides, quot_lt, next_digits, divided_is}
 use Rattle.wide.proofs.quotient.two_digits.Goals as goal
 use Rattle.wide.proofs.quotient.two_digits.Goals.{After-digit-first, After-digit-second}
-
--- Two steps of long division: the first digit's remainder goes before the second.
 
 positive : (v : ℕ) → 2 ^ 63 ≤ v → 0 < v
 positive v h = omega arith
