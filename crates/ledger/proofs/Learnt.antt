@@ -1,5 +1,5 @@
--- What a caller learns from the checked contract of `close`, which takes a slice of records and is walked: the kit's own reading of the
--- generated clauses (records' `LearntBy`). Assumes nothing.
+-- What a caller learns from the checked contract of `close`, which takes a slice of records: the kit's own reading of the generated
+-- clauses (records' `LearntBy`). `tells`: it is neither more nor less than the contract. Assumes nothing.
 use mathlib.Core.Path.{refl}
 use base.Logic.{id⊢}
 use contract.Lifetimes.{Lfts}

@@ -222,7 +222,8 @@ module _ {M : Type 1} {𝓤 : Ura M} (𝓛 : Logic 𝓤) (𝓜 : Model 𝓤 𝓛
       let Q₆ : Pr = ⟦ (ShrSlice (named 3) (κ 3 tt) P.the_row).own_val x₆.1 (shr_slice_vals x₆.1) ⟧ ∗ Q₇ in
       ∥∥₁_elim (readable Ru tt (row user_width) (row_copied user_width) (lines user_width c.users f.users) (named 2) 6 2 tt κs Q₆ x₆.0 x₆.3) ∥∥₁_prop (λ x₅.
       let Q₅ : Pr = ⟦ (ShrSlice (named 2) (κ 2 tt) Ru).own_val x₅.1 (shr_slice_vals x₅.1) ⟧ ∗ Q₆ in
-      ∥∥₁_elim (readable Ra tt (row agent_width) (row_copied agent_width) (lines agent_width c.agents f.agents) (named 1) 6 1 tt κs Q₅ x₅.0 x₅.3) ∥∥₁_prop (λ x₄.
+      ∥∥₁_elim (readable Ra tt (row agent_width) (row_copied agent_width) (lines agent_width c.agents f.agents) (named 1) 6 1 tt κs Q₅ x₅.0 x₅.3)
+      ∥∥₁_prop (λ x₄.
       let Q₄ : Pr = ⟦ (ShrSlice (named 1) (κ 1 tt) Ra).own_val x₄.1 (shr_slice_vals x₄.1) ⟧ ∗ Q₅ in
       let line = LL.vals L.the_type L'.the_laws c.line in
       let Q₃ : Pr = ⟦ (L.the_row).own_val c.line line ⟧ ∗ Q₄ in

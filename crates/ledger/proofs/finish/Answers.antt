@@ -16,6 +16,8 @@ judge-found-requires c =
     let p = c.requires in
     (p.0, _, begun a.ledger a.held.now a.cells.now a.work.now a.line a.agents.now a.users.now p.1 (c.closing_verdict-first.ensures a.held.now))
 
+-- An accepted month has few cells, and its slices reach:
+-- the held credits an entry for each user, the cells a row for each agent and one more.
 pub overflow_mul-c : goal.overflow_mul-c
 overflow_mul-c c = omega (arith, cells_small (found c.requires.1 c.closing_verdict-first.ensures c.judge-found.ensures) c.in-Accepted.is)
 
@@ -36,6 +38,8 @@ slice_bounds-write-end-in-Accepted-3 c =
 pub write-requires : goal.write-requires
 write-requires c = (_, _, _, may_write (found c.requires.1 c.closing_verdict-first.ensures c.judge-found.ensures) c.in-Accepted.is)
 
+-- What is answered, and how the slices are left:
+-- of a refused month as they were, of an accepted one as closing promises.
 pub returns-in-Refused : goal.returns-in-Refused
 returns-in-Refused c points f = refused_closes (found f c.closing_verdict-first.ensures c.judge-found.ensures) c.in-Refused.is
 
