@@ -8,9 +8,8 @@ use rateio_reference::refusals::MAX_HELD;
 use rateio_reference::rng::Rng;
 use std::time::{Duration, Instant};
 
-/// What the program times of the first month.
-const PARTS: [&str; 5] =
-    ["scan of the points", "refusals and amounts", "credits of the payees", "table of cells", "scan, sums in place"];
+/// What lies between the times that a closing tells.
+const PARTS: [&str; 4] = ["scan of the points", "refusals and amounts", "credits of the payees", "table of cells"];
 
 /// Months of the largest size: two that are closed, without points, refused with 10, with 8, and by the ledger's counts.
 fn months() -> Vec<(&'static str, Call)> {
@@ -37,8 +36,8 @@ fn months() -> Vec<(&'static str, Call)> {
     ]
 }
 
-/// Writes the program's input, with times for each part and month; and that for months of every style, closed once.
-pub fn write(timed: &str, once: &str) {
+/// Writes the program's input, with a time for each month; that for the first of them; and that for months of every style, closed once.
+pub fn write(timed: &str, first: &str, once: &str) {
     let script = |milliseconds: u64, calls: &[Call]| {
         let mut script = milliseconds.to_le_bytes().to_vec();
         calls.iter().for_each(|call| call.write(&mut script));
@@ -46,6 +45,7 @@ pub fn write(timed: &str, once: &str) {
     };
     let calls: Vec<Call> = months().into_iter().map(|(_, call)| call).collect();
     std::fs::write(timed, script(200, &calls)).expect("the input can be written");
+    std::fs::write(first, script(400, &calls[..1])).expect("the input can be written");
     std::fs::write(once, script(0, &full_months(&mut Rng::new(202_412)))).expect("the input can be written");
 }
 
@@ -70,27 +70,41 @@ fn range(runs: &[Vec<u64>], k: usize) -> (u64, u64) {
     (times().min().expect("a run"), times().max().expect("a run"))
 }
 
+/// The times of a run: of the scan with its sums in place, then of each month.
+fn times(path: &str) -> Vec<u64> {
+    let text = std::fs::read_to_string(path).expect("the times of a run");
+    text.lines().map(|line| line.parse().expect("nanoseconds")).collect()
+}
+
+/// The least of each part, of what a run's closings told: the time at their start and after each part, 8 bytes each.
+fn parts(path: &str) -> Vec<u64> {
+    let bytes = std::fs::read(path).expect("what a run told");
+    let told: Vec<u64> = bytes.chunks(8).map(|b| u64::from_le_bytes(b.try_into().expect("8 bytes"))).collect();
+    let closings = || told.chunks(PARTS.len() + 1);
+    assert!(!told.is_empty() && closings().all(|c| c.len() == PARTS.len() + 1), "each closing tells all its times");
+    (0..PARTS.len()).map(|k| closings().map(|c| c[k + 1] - c[k]).min().expect("a closing")).collect()
+}
+
 /// Prints the times of the program's runs beside the reference's. A time is the least of a run; of the runs, the least and the most.
-pub fn compare(runs: &[&str]) {
-    let times = |path: &&str| -> Vec<u64> {
-        let text = std::fs::read_to_string(path).expect("the times of a run");
-        text.lines().map(|line| line.parse().expect("nanoseconds")).collect()
+pub fn compare(folder: &str, count: usize) {
+    let of_runs = |f: fn(&str) -> Vec<u64>, name: &str| -> Vec<Vec<u64>> {
+        (1..=count).map(|run| f(&format!("{}/{}.{}", folder, name, run))).collect()
     };
-    let runs: Vec<Vec<u64>> = runs.iter().map(times).collect();
+    let (runs, told) = (of_runs(times, "times"), of_runs(parts, "told"));
     let months = months();
-    assert!(runs.iter().all(|times| times.len() == PARTS.len() + months.len()), "a time for each part and month");
+    assert!(runs.iter().all(|times| times.len() == 1 + months.len()), "a time for the scan and each month");
     let micros = |nanoseconds: u64| nanoseconds as f64 / 1000.0;
     println!("{:<28}{:>11}{:>11}{:>11}{:>9}", "microseconds", "least", "most", "reference", "ratio");
     for (k, (name, call)) in months.iter().enumerate() {
-        let (least, most) = range(&runs, PARTS.len() + k);
+        let (least, most) = range(&runs, 1 + k);
         let theirs = reference(call);
         let ratio = least as f64 / theirs as f64;
         println!("{:<28}{:>11.1}{:>11.1}{:>11.1}{:>9.3}", name, micros(least), micros(most), micros(theirs), ratio);
     }
-    let whole: u64 = (0..4).map(|k| range(&runs, k).0).sum();
+    let whole: u64 = (0..PARTS.len()).map(|k| range(&told, k).0).sum();
     println!("{:<28}{:>11}{:>11}{:>11}", "by part, ordinary amounts", "least", "most", "share");
-    for (k, name) in PARTS.iter().enumerate() {
-        let (least, most) = range(&runs, k);
+    let ranges = PARTS.iter().enumerate().map(|(k, name)| (*name, range(&told, k)));
+    for (name, (least, most)) in ranges.chain([("scan, sums in place", range(&runs, 0))]) {
         let share = 100.0 * least as f64 / whole as f64;
         println!("{:<28}{:>11.1}{:>11.1}{:>10.1}%", name, micros(least), micros(most), share);
     }

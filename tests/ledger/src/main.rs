@@ -21,10 +21,10 @@ fn main() {
     match args.iter().map(String::as_str).collect::<Vec<_>>()[..] {
         [_, "write", vectors, summary, ref parts @ ..] => write(vectors, summary, parts),
         [_, "check", vectors, short, ref parts @ ..] => check(vectors, short, parts),
-        [_, "bench-write", timed, once] => bench::write(timed, once),
-        [_, "bench", ref runs @ ..] => bench::compare(runs),
+        [_, "bench-write", timed, first, once] => bench::write(timed, first, once),
+        [_, "bench", folder, runs] => bench::compare(folder, runs.parse().expect("a count of runs")),
         _ => panic!(
-            "write VECTORS SUMMARY PART.., check VECTORS SHORT PART.., bench-write TIMED ONCE, bench TIMES.."
+            "write VECTORS SUMMARY PART.., check VECTORS SHORT PART.., bench-write TIMED FIRST ONCE, bench FOLDER RUNS"
         ),
     }
 }
