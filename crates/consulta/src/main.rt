@@ -9,7 +9,7 @@ fn main(rt: HostRuntime) {
         &rt,
         Print::Amounts,
         b"month,item,payee,user,point,cents\n",
-        "consulta: standard input",
-        "consulta: standard output",
+        b"consulta: standard input",
+        b"consulta: standard output",
     );
 }

@@ -19,7 +19,7 @@ use Rattle.rules.specs.Charges.{half_up, or_zero, use_charge, allowance, excess,
 use Rattle.rules.specs.Bands.{use_once, overrun_once, Apart, points_of}
 
 module _ (x y : ℤ) (d : ℕ) (h : 0 < d) where
-  -- what `halfUp` divides by 2d, of each and of both
+  -- what `half_up` divides by 2d, of each and of both
   abbrev X : ℤ
   X = pos 2 *ℤ x +ℤ pos d
 

@@ -15,7 +15,7 @@
 -- It is not empty: `Promise` proves a call's promise by cases, `Some` that promised lists of calls exist, and `Worked` is one.
 -- Guards, which a wrong definition would break: `Totals`, `Blind` (what an amount does not look at), `Cycle` (the tariff year and the
 -- cycle read against the calendar, with `Months`), `WholeCycle` (a cycle pays pa, whichever months were skipped), `Bands` (peak and
--- off_peak rounded each for itself, beside both rounded once), `SisterAgents` and `SisterUsers` (two lines listed as one, worked out in
+-- off-peak rounded each for itself, beside both rounded once), `SisterAgents` and `SisterUsers` (two lines listed as one, worked out in
 -- `SistersWorked`), `Examples` of refusals and `Places` where they fall; `Sides` has the sums that they need.
 -- What code relies on: `Bounds` of every amount. `Ranged` is what tests 1 to 7 give; on it stand, by the tests that each needs besides,
 -- `BoundsSums` (none; from `BoundsPoint`, `BoundsAgent` and `PerUser`), `BoundsCharges` (9), `BoundsCredits` (8, 9), the cells (10);

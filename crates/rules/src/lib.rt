@@ -17,7 +17,7 @@ pub type PointLine = [i64; 9];
 
 pub mod columns;
 
-// A connection point's line: its user, then peak and off_peak tariff, discount, contracted and verified power.
+// A connection point's line: its user, then peak and off-peak tariff, discount, contracted and verified power.
 #[derive(Clone, Copy)]
 pub struct Point {
     pub user: i64,

@@ -13,7 +13,7 @@ fn points<R: io::Print + io::Eprint>(
     month: i64,
     points: &[PointLine],
     rows: &[PointRow],
-    told: &str,
+    told: &[u8],
 ) -> bool
     requires { length rows.now ≤ length points.now }
 {
@@ -54,7 +54,7 @@ fn points<R: io::Print + io::Eprint>(
 }
 
 // What a user is charged; how that is settled against its held credit, and what it owes straight to ONS.
-fn charged<R: io::Print + io::Eprint>(rt: &R, month: i64, j: u64, r: UserRow, told: &str) -> bool {
+fn charged<R: io::Print + io::Eprint>(rt: &R, month: i64, j: u64, r: UserRow, told: &[u8]) -> bool {
     if !row(
         rt,
         month,
@@ -97,7 +97,7 @@ fn charged<R: io::Print + io::Eprint>(rt: &R, month: i64, j: u64, r: UserRow, to
     row(rt, month, b"CPV", Payee::Nobody, j, 0, r[stated::CPV], told)
 }
 
-fn owed<R: io::Print + io::Eprint>(rt: &R, month: i64, j: u64, r: UserRow, told: &str) -> bool {
+fn owed<R: io::Print + io::Eprint>(rt: &R, month: i64, j: u64, r: UserRow, told: &[u8]) -> bool {
     if !row(
         rt,
         month,
@@ -131,7 +131,7 @@ fn owed<R: io::Print + io::Eprint>(rt: &R, month: i64, j: u64, r: UserRow, told:
     row(rt, month, b"ong", Payee::Nobody, j, 0, r[stated::ONG], told)
 }
 
-fn users<R: io::Print + io::Eprint>(rt: &R, month: i64, rows: &[UserRow], told: &str) -> bool {
+fn users<R: io::Print + io::Eprint>(rt: &R, month: i64, rows: &[UserRow], told: &[u8]) -> bool {
     let n = rows.len();
     let mut i = 0;
     while i < n {
@@ -148,7 +148,7 @@ fn users<R: io::Print + io::Eprint>(rt: &R, month: i64, rows: &[UserRow], told: 
     true
 }
 
-fn agent<R: io::Print + io::Eprint>(rt: &R, month: i64, i: u64, r: PayeeRow, told: &str) -> bool {
+fn agent<R: io::Print + io::Eprint>(rt: &R, month: i64, i: u64, r: PayeeRow, told: &[u8]) -> bool {
     if !row(
         rt,
         month,
@@ -200,7 +200,7 @@ fn agent<R: io::Print + io::Eprint>(rt: &R, month: i64, i: u64, r: PayeeRow, tol
     row(rt, month, b"VC", Payee::Agent(i), 0, 0, r[stated::VC], told)
 }
 
-fn agents<R: io::Print + io::Eprint>(rt: &R, month: i64, rows: &[PayeeRow], told: &str) -> bool {
+fn agents<R: io::Print + io::Eprint>(rt: &R, month: i64, rows: &[PayeeRow], told: &[u8]) -> bool {
     let n = rows.len();
     let mut i = 0;
     while i < n {
@@ -214,7 +214,7 @@ fn agents<R: io::Print + io::Eprint>(rt: &R, month: i64, rows: &[PayeeRow], told
 }
 
 // ONS's shared part, and its credit with every direct charge.
-fn ons<R: io::Print + io::Eprint>(rt: &R, month: i64, r: PayeeRow, told: &str) -> bool {
+fn ons<R: io::Print + io::Eprint>(rt: &R, month: i64, r: PayeeRow, told: &[u8]) -> bool {
     if !row(rt, month, b"ons", Payee::Ons, 0, 0, r[stated::SHARED], told) {
         return false;
     }
@@ -227,7 +227,7 @@ fn cells_of<R: io::Print + io::Eprint>(
     month: i64,
     payee: Payee,
     cents: &[i64],
-    told: &str,
+    told: &[u8],
 ) -> bool {
     let n = cents.len();
     let mut i = 0;
@@ -246,7 +246,7 @@ fn cells<R: io::Print + io::Eprint>(
     agents: usize,
     users: usize,
     table: &[i64],
-    told: &str,
+    told: &[u8],
 ) -> bool
     requires { (agents + 1) * users ≤ length table.now }
 {
@@ -281,7 +281,7 @@ pub(crate) fn month<R: io::Print + io::Eprint>(
     ons_row: PayeeRow,
     balance: i64,
     table: &[i64],
-    told: &str,
+    told: &[u8],
 ) -> bool
     requires { (length point_rows.now ≤ length lines.now) × ((length agent_rows.now + 1) * length user_rows.now ≤ length table.now) }
 {

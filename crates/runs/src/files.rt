@@ -96,7 +96,7 @@ fn close_file<R: io::Print + io::Eprint>(
     held: &mut [i64],
     cells: &mut [i64],
     work: &mut [u64],
-    told: &str,
+    told: &[u8],
 ) -> Step
     requires { Lies h agents.now users.now points.now held.old cells.old }
     ensures { GoesTo h.next result }
@@ -134,7 +134,7 @@ fn file<R: io::Print + io::Eprint>(
     held: &mut [i64],
     cells: &mut [i64],
     work: &mut [u64],
-    told: &str,
+    told: &[u8],
 ) -> Step
     requires { Buffers agents.old users.old points.old held.old cells.old }
     ensures { GoesOn at (length text.now) result }
@@ -164,7 +164,7 @@ fn files<R: io::Print + io::Eprint>(
     held: &mut [i64],
     cells: &mut [i64],
     work: &mut [u64],
-    told: &str,
+    told: &[u8],
 )
     requires { Buffers agents.old users.old points.old held.old cells.old }
 {
@@ -188,7 +188,7 @@ fn files<R: io::Print + io::Eprint>(
 }
 
 // The buffers: 16 agents, 64 users with their held credits, 256 points, 17 × 64 cells, and twice that plus 4 × (17 + 64) entries of work.
-pub(crate) fn all_files<R: io::Print + io::Eprint>(rt: &R, print: Print, text: &[u8], told: &str) {
+pub(crate) fn all_files<R: io::Print + io::Eprint>(rt: &R, print: Print, text: &[u8], told: &[u8]) {
     let mut agents = [[0i64; 7]; 16];
     let mut users = [[0i64; 4]; 64];
     let mut points = [[0i64; 9]; 256];

@@ -22,7 +22,7 @@ pub enum Input {
 }
 
 // `told` is what is said of a read that fails.
-pub(crate) fn read_all<R: io::Input + io::Eprint>(rt: &R, text: &mut [u8], told: &str) -> Input
+pub(crate) fn read_all<R: io::Input + io::Eprint>(rt: &R, text: &mut [u8], told: &[u8]) -> Input
     ensures { InputWithin (length text.new) result }
 {
     let mut reader = rt.reader();

@@ -31,8 +31,8 @@ pub fn run<R: io::Input + io::Print + io::Eprint>(
     rt: &R,
     print: Print,
     names: &[u8],
-    reads: &str,
-    writes: &str,
+    reads: &[u8],
+    writes: &[u8],
 ) {
     if !lines::write(rt, names, writes) {
         return;

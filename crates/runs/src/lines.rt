@@ -6,7 +6,7 @@ use itoa::Buffer;
 use std::io;
 
 // Writes a whole line; `told` is what is said of a write that fails.
-pub(crate) fn write<R: io::Print + io::Eprint>(rt: &R, text: &[u8], told: &str) -> bool {
+pub(crate) fn write<R: io::Print + io::Eprint>(rt: &R, text: &[u8], told: &[u8]) -> bool {
     match rt.write_all(text) {
         Ok(()) => true,
         Err(error) => {
@@ -17,8 +17,16 @@ pub(crate) fn write<R: io::Print + io::Eprint>(rt: &R, text: &[u8], told: &str) 
 }
 
 // Says on standard error what failed, and why; a failure to say so is not told.
-pub(crate) fn tell<R: io::Eprint>(rt: &R, told: &str, error: io::Error) {
-    let _ = eprintln!(rt; "{told}: {error}");
+pub(crate) fn tell<R: io::Eprint>(rt: &R, told: &[u8], error: io::Error) {
+    match str::from_utf8(told) {
+        Ok(text) => {
+            let _ = eprintln!(rt; "{text}: {error}");
+        }
+        // not text: the reason alone
+        Err(_) => {
+            let _ = eprintln!(rt; "{error}");
+        }
+    }
 }
 
 // Each of these puts its text at the place `at` of a line, and answers the place after it.
@@ -78,7 +86,7 @@ pub(crate) fn refused<R: io::Print + io::Eprint>(
     rt: &R,
     number: u64,
     place: u64,
-    told: &str,
+    told: &[u8],
 ) -> bool {
     let mut line = [0u8; 50];
     let n = put_refused(&mut line, number, place);

@@ -25,7 +25,7 @@ fn close_table<R: io::Print + io::Eprint>(
     points: &[PointLine],
     cells: &mut [i64],
     work: &mut [u64],
-    told: &str,
+    told: &[u8],
 ) -> Closing
     requires { Buffers agents.now users.now points.now held.old cells.old }
 {
@@ -56,7 +56,7 @@ fn print_amounts<R: io::Print + io::Eprint>(
     agents: usize,
     balance: i64,
     cells: &[i64],
-    told: &str,
+    told: &[u8],
 ) -> bool
     requires { Rows agents points.now point_rows.now user_rows.now payee_rows.now cells.now }
 {
@@ -95,7 +95,7 @@ fn state_and_close<R: io::Print + io::Eprint>(
     payee_rows: &mut [PayeeRow],
     cells: &mut [i64],
     work: &mut [u64],
-    told: &str,
+    told: &[u8],
 ) -> Closing
     requires { Rows (length agents.now) points.now point_rows.old user_rows.old payee_rows.old cells.old }
 {
@@ -135,7 +135,7 @@ fn close_amounts<R: io::Print + io::Eprint>(
     points: &[PointLine],
     cells: &mut [i64],
     work: &mut [u64],
-    told: &str,
+    told: &[u8],
 ) -> Closing
     requires { Buffers agents.now users.now points.now held.old cells.old }
 {
@@ -174,7 +174,7 @@ pub(crate) fn close<R: io::Print + io::Eprint>(
     points: &[PointLine],
     cells: &mut [i64],
     work: &mut [u64],
-    told: &str,
+    told: &[u8],
 ) -> Closing
     requires { Buffers agents.now users.now points.now held.old cells.old }
 {

@@ -81,7 +81,7 @@ pub(crate) fn row<R: io::Print + io::Eprint>(
     user: u64,
     point: u64,
     cents: i64,
-    told: &str,
+    told: &[u8],
 ) -> bool
     requires { length item.now ≤ 11 }
 {

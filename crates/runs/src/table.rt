@@ -34,7 +34,7 @@ fn amount<R: io::Print + io::Eprint>(
     payee: Payee,
     user: u64,
     cents: i64,
-    told: &str,
+    told: &[u8],
 ) -> bool {
     let mut line = [0u8; LONGEST];
     let a = lines::put_amount(&mut line, 0, month);
@@ -54,7 +54,7 @@ fn row<R: io::Print + io::Eprint>(
     month: i64,
     payee: Payee,
     cents: &[i64],
-    told: &str,
+    told: &[u8],
 ) -> bool {
     let n = cents.len();
     let mut i = 0;
@@ -74,7 +74,7 @@ pub(crate) fn month<R: io::Print + io::Eprint>(
     users: usize,
     cells: &[i64],
     held: &[i64],
-    told: &str,
+    told: &[u8],
 ) -> bool
     requires { ((agents + 1) * users ≤ length cells.now) × (users ≤ length held.now) }
 {

@@ -9,7 +9,7 @@ fn main(rt: HostRuntime) {
         &rt,
         Print::Table,
         b"month,payee,user,cents\n",
-        "settle: standard input",
-        "settle: standard output",
+        b"settle: standard input",
+        b"settle: standard output",
     );
 }
