@@ -1,6 +1,7 @@
 # Sourced by a test, at the repository's top: a repository in a temporary folder, $copy, which has these crates and those that the test
 # adds. rt refuses links, so they are copied, without what rt made of them: it takes that from here where the text is the same.
 copy=$(mktemp -d)
+said=$copy/said
 trap 'rm -rf "$copy"' EXIT
 cp crates.txt "$copy/"
 for crate in crates/*; do
@@ -10,9 +11,9 @@ for crate in crates/*; do
     done
 done
 
-# quietly COMMAND..: what it says is in $copy/said, and shown where it fails
+# quietly COMMAND..: what it says goes to $said, and is shown where it fails
 quietly() {
-    "$@" >"$copy/said" 2>&1 || { cat "$copy/said" >&2; return 1; }
+    "$@" >"$said" 2>&1 || { cat "$said" >&2; return 1; }
 }
 # within CRATE COMMAND..: in the copy's crate
 within() {
@@ -44,11 +45,11 @@ compiled() {
 }
 # tried NAME FLAGS..: runs the program with checks and, where it can, by the interpreter, which has to write the same
 tried() {
-    within "$1" rt try "${@:2}" 2>"$copy/said" || { cat "$copy/said" >&2; return 1; }
+    within "$1" rt try "${@:2}" 2>"$said" || { cat "$said" >&2; return 1; }
 }
 # interpreted: the last program tried ran by the interpreter too
 interpreted() {
-    grep -q '^interpreter: ended status=0' "$copy/said" || { cat "$copy/said" >&2; return 1; }
+    grep -q '^interpreter: ended status=0' "$said" || { cat "$said" >&2; return 1; }
 }
 # gives FOLDER COMMAND..: on the folder's stdin it writes the folder's stdout
 gives() {
