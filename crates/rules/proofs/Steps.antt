@@ -12,7 +12,7 @@ use borrow.Author.Tests.{ltb-false}
 use Rattle.ints.specs.Bridge.{za, add#, sub#}
 use Rattle.ints.specs.Sums.{Σ<}
 use Rattle.rules.specs.declared.Ledger.{Ledger}
-use Rattle.rules.specs.declared.Outcome.{Outcome}
+use Rattle.rules.specs.declared.outcomes.Outcome.{Outcome}
 use Rattle.rules.specs.Verdict.{Verdict, accepted, refused, ByVerdict}
 use Rattle.rules.specs.Charges.{VMEs, CPVs, VDs, new_credits}
 use Rattle.rules.specs.Table.{cell_at}
@@ -95,8 +95,8 @@ module _ (users agents : ℕ) (s : State) (c : Call) (credits : List ℤ) (a : A
       → Step (refused n p) users agents s c credits
   step_refused n p k =
       record {
-        answer = ap (λ (x : Outcome). verdict_of x.answer) k.outcome;
-        agree = rw (k.outcome, k.credits, untouched credits c.held lent) a;
+        answer = k.answer;
+        agree = rw (k.ledger, k.credits, untouched credits c.held lent) a;
         user = λ j h. refl;
         payee = λ i h. refl;
         near = by_refused refl tt;

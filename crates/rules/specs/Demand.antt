@@ -4,7 +4,7 @@ use Rattle.std.specs.Prelude.{ℕ, suc, ◌<◌, ◌≡◌, List, [], ◌∷◌,
 use Rattle.ints.specs.Bridge.{abs}
 use Rattle.ints.specs.Sums.{sum_ℤ, Σ<}
 use Rattle.rules.specs.declared.Ledger.{Ledger}
-use Rattle.rules.specs.declared.Outcome.{Outcome}
+use Rattle.rules.specs.declared.outcomes.Outcome.{Outcome}
 use Rattle.rules.specs.Verdict.{ByVerdict}
 use Rattle.rules.specs.Lines.{Lines}
 use Rattle.rules.specs.Charges.{VDs}
