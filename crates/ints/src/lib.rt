@@ -10,10 +10,7 @@ ghost use Rattle.ints.specs.Adding.{Summable};
 pub fn outside(low: i64, high: i64, x: i64) -> bool
     ensures { result ≡ outside low high x }
 {
-    if x < low {
-        return true;
-    }
-    high < x
+    !(low..=high).contains(&x)
 }
 
 // The sum of the entries.
@@ -21,11 +18,9 @@ pub fn total(amounts: &[i64]) -> i64
     requires { Summable amounts.now }
     ensures { result ≡ sum_ℤ amounts.now }
 {
-    let mut sum: i64 = 0;
-    let mut i = 0;
-    while i < amounts.len() {
-        sum = sum + amounts[i];
-        i += 1;
+    let mut sum = 0;
+    for x in amounts {
+        sum += *x;
     }
     sum
 }
