@@ -13,7 +13,7 @@ module _ (g : Over) (c : After-amount-sum g) where
 
   amount_is : c.amount-sum.result ≡ get_or (map g.of c.args.lines.now) c.loop-x.x-index (pos 0)
   amount_is = c.requires.1.1.1.0 _ _ (record { shown = _; shows = refl; says = record { met = c.amount-sum.ensures } })
-    ∙ ap g.of c.x-item.is ∙ sym (get_or-map g.of c.args.lines.now c.loop-x.x-index c.x-item.result (pos 0) c.loop-x-test.true)
+      ∙ ap g.of c.x-item.is ∙ sym (get_or-map g.of c.args.lines.now c.loop-x.x-index c.x-item.result (pos 0) c.loop-x-test.true)
 
   amount_fits : SFits w64 c.amount-sum.result
   amount_fits = record { sfits = c.amount-sum.type_inv }
