@@ -10,7 +10,8 @@ use lib.ListN.{take, drop, replicate, length-replicate, get_or-replicate}
 use lib.Seq.{take_all, take_at, drop_at}
 use Rattle.rules.specs.declared.outcomes.Outcome.{Outcome}
 use Rattle.rules.specs.Verdict.{accepted}
-use Rattle.rules.specs.Calls.{verdict_of, Opens}
+use Rattle.rules.specs.Answers.{verdict_of}
+use Rattle.rules.specs.Calls.{Opens}
 use Rattle.rules.specs.Tally.{opened}
 use Rattle.rules.specs.Demand.{Call, Chain, AllPromised, billed_to_user, Demand3}
 use Rattle.rules.proofs.Promise.{opens_verdict}

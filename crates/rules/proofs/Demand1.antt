@@ -16,7 +16,8 @@ use Rattle.rules.specs.Credits.{VCs}
 use Rattle.rules.specs.Refusals.{Lengths, cells_needed, short_slices, refusal, opening_refusal}
 use Rattle.rules.specs.State.{State}
 use Rattle.rules.specs.Limits.{Limit}
-use Rattle.rules.specs.Calls.{verdict_of, Opened, NotOpened, Opens, state_of, lengths_of}
+use Rattle.rules.specs.Answers.{verdict_of}
+use Rattle.rules.specs.Calls.{Opened, NotOpened, Opens, state_of, lengths_of}
 use Rattle.rules.specs.Demand.{Call, Promised}
 use Rattle.rules.specs.Demand1.{AnsweredBy, Demand1Opening, Advanced, Demand1Closing}
 use Rattle.rules.proofs.Passed.{slices, slices_accepted, passed}

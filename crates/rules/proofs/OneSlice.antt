@@ -11,7 +11,8 @@ use Rattle.rules.specs.declared.Ledger.{Ledger}
 use Rattle.rules.specs.declared.outcomes.Outcome.{Outcome}
 use Rattle.rules.specs.State.{State}
 use Rattle.rules.specs.Verdict.{accepted}
-use Rattle.rules.specs.Calls.{verdict_of, Opens}
+use Rattle.rules.specs.Answers.{verdict_of}
+use Rattle.rules.specs.Calls.{Opens}
 use Rattle.rules.specs.Tally.{opened}
 use Rattle.rules.specs.Demand.{Call, Chain, AllPromised, left_in, last_ledger, last_credits, AllBeyond, Demand3}
 use Rattle.rules.specs.Demand.{SameSlice, last_held, SliceLeft}

@@ -15,7 +15,8 @@ use Rattle.rules.specs.Charges.{new_credits}
 use Rattle.rules.specs.Direct.{MonthTable}
 use Rattle.rules.specs.Refusals.{cells_needed, opening_refusal}
 use Rattle.rules.specs.Answers.{refused_by}
-use Rattle.rules.specs.Calls.{verdict_of, empty_ledger, Opens, state_of, closing_refusal, Closes}
+use Rattle.rules.specs.Answers.{verdict_of}
+use Rattle.rules.specs.Calls.{empty_ledger, Opens, state_of, closing_refusal, Closes}
 use Rattle.rules.proofs.Tests.{refused_not_accepted}
 
 module _ {v : Verdict} {done : Type 0} {back : ℕ → ℕ → Type 0} where

@@ -18,7 +18,8 @@ use Rattle.rules.specs.Credits.{VCs}
 use Rattle.rules.specs.Table.{Table}
 use Rattle.rules.specs.State.{State}
 use Rattle.rules.specs.Refusals.{cells_needed, short_slices, refusal, opening_refusal}
-use Rattle.rules.specs.Calls.{verdict_of, Opens, state_of, lengths_of, closing_refusal, Closes}
+use Rattle.rules.specs.Answers.{verdict_of}
+use Rattle.rules.specs.Calls.{Opens, state_of, lengths_of, closing_refusal, Closes}
 use Rattle.rules.specs.Demand.{Call, Promised, Lent, left_in, Chain, AllPromised}
 use Rattle.rules.proofs.Passed.{Passed, slices, slices_accepted, passed}
 use Rattle.rules.proofs.Sizes.{length_VDs, length_VCs}

@@ -19,7 +19,8 @@ use Rattle.rules.specs.Table.{cell_at}
 use Rattle.rules.specs.Direct.{ongs, MonthTable}
 use Rattle.rules.specs.State.{State}
 use Rattle.rules.specs.Refusals.{cells_needed, short_slices}
-use Rattle.rules.specs.Calls.{verdict_of, state_of, closing_refusal, Closed, NotClosed}
+use Rattle.rules.specs.Answers.{verdict_of}
+use Rattle.rules.specs.Calls.{state_of, closing_refusal, Closed, NotClosed}
 use Rattle.rules.specs.Tally.{judged, moved, counted, charges_less_compensation, payee_credit}
 use Rattle.rules.specs.Demand.{Call, Promised, Lent, left_in, fed, NearCells}
 use Rattle.rules.proofs.Passed.{Passed, slices, slices_accepted, passed}

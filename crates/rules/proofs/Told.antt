@@ -8,7 +8,9 @@ use Rattle.rules.specs.declared.Point.{Point}
 use Rattle.rules.specs.declared.outcomes.Lent.TheVariants.{Held, Cells, Work}
 use Rattle.rules.specs.declared.outcomes.Refusal.TheVariants.{BadCounts, ShortSlice, BadMonth, BadCredit, BadValue, NoSuchUser, UnfitPoint, NoPayments, NoUse, NoDebit}
 use Rattle.rules.specs.Verdict.{Verdict}
-use Rattle.rules.specs.Lines.{Agent, User, Lines}
+use Rattle.rules.specs.declared.Agent.{Agent}
+use Rattle.rules.specs.declared.User.{User}
+use Rattle.rules.specs.Lines.{Lines}
 use Rattle.rules.specs.State.{State}
 use Rattle.rules.specs.Refusals.{Lengths, short_slices, credit_test, agent_test, user_test, point_test, count_tests, state_tests, lines_before_points, line_tests, sum_tests, refusal, opening_refusal}
 use Rattle.rules.specs.Calls.{state_of, lengths_of, closing_refusal}

@@ -3,7 +3,7 @@ use Rattle.std.specs.Prelude.{ℕ, ◌≡◌, Ok, List, ◌++◌, ℤ, pos, leng
 use Rattle.rules.specs.declared.Ledger.{Ledger}
 use Rattle.rules.specs.declared.outcomes.Outcome.{Outcome}
 use Rattle.rules.specs.Verdict.{Verdict, refused, ByVerdict}
-pub use Rattle.rules.specs.Answers.{verdict_of}
+use Rattle.rules.specs.Answers.{verdict_of}
 use Rattle.rules.specs.Lines.{Lines}
 use Rattle.rules.specs.Charges.{new_credits}
 use Rattle.rules.specs.Direct.{MonthTable}

@@ -6,7 +6,8 @@ use Rattle.rules.specs.declared.outcomes.Refusal.{Refusal}
 use Rattle.rules.specs.Verdict.{accepted, refused}
 use Rattle.rules.specs.Refusals.{cells_needed}
 use Rattle.rules.specs.Limits.{Limit, opening_limits, closing_limits}
-use Rattle.rules.specs.Calls.{verdict_of, state_of, lengths_of}
+use Rattle.rules.specs.Answers.{verdict_of}
+use Rattle.rules.specs.Calls.{state_of, lengths_of}
 use Rattle.rules.specs.Demand.{Call}
 
 -- accepted exactly if every limit is kept; refused with a number and a place exactly if the first limit that is broken comes back so
