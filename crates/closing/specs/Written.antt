@@ -16,10 +16,10 @@ pub record Writable (bills : Bills) (ledger : Ledger) (l : Lines) (held cells : 
   pub accepts : refusal st short l ≡ accepted
   pub one_each : length st.credits ≡ st.users
   pub last_is : ledger.month ≡ st.month
-  pub bills_are : Billed (length held) st l bills
-  pub held_count : length held ≡ st.users
-  pub cells_count : length cells ≡ (length l.agents + 1) * length held
-  pub work_count : (length l.agents + 1) * length held ≤ length work
+  pub bills_are : Billed (length l.users) st l bills
+  pub held_count : length held ≡ length l.users
+  pub cells_count : length cells ≡ (length l.agents + 1) * length l.users
+  pub work_count : (length l.agents + 1) * length l.users ≤ length work
 
 -- the slices as they are left
 pub record Written (st : State) (l : Lines) (work : List ℕ) (held' cells' : List ℤ) (work' : List ℕ) : Type 0 where

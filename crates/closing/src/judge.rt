@@ -5,12 +5,20 @@ ghost use Rattle.rules.specs.Verdict.{Verdict};
 ghost use Rattle.rules.specs.Lines.{lines_of};
 ghost use Rattle.rules.specs.State.{State};
 ghost use Rattle.rules.specs.Refusals.{state_tests, line_tests};
-ghost use Rattle.rules.specs.Calls.{state_of, verdict_of};
+ghost use Rattle.rules.specs.Answers.{verdict_of};
+ghost use Rattle.rules.specs.Calls.{state_of};
 ghost use Rattle.closing.specs.Judged.{Begun, Weighable, Weighs, Judges};
 
 use charges::month::Bills;
 use charges::scan::Sums;
 use rules::{Ledger, MonthLine, MonthLines, Refusal};
+
+// What is found of a month that breaks no limit: the sums of every user's points, and every user's amounts.
+#[derive(Clone, Copy)]
+pub struct Judged {
+    pub sums: Sums,
+    pub bills: Bills,
+}
 
 // 3 and 4: the month, then the held credits, the first entry for each user.
 fn state_verdict(ledger: Ledger, held: &[i64], line: MonthLine) -> Result<(), Refusal>
@@ -54,7 +62,7 @@ pub fn judge(
     ledger: Ledger,
     held: &[i64],
     month: MonthLines,
-) -> Result<Bills, Refusal>
+) -> Result<Judged, Refusal>
     requires { (short : Verdict) × Begun ledger held.now (lines_of month) first short }
     ensures { (short : Verdict) → Begun ledger held.now (lines_of month.entry) first short
         → Judges ledger held.now short (lines_of month.entry) result }
@@ -63,5 +71,6 @@ pub fn judge(
     state_verdict(ledger, held, month.line)?;
     let sums = lines_verdict(month)?;
     let n = ledger.users as usize;
-    weighed(&held[..n], month, &sums)
+    let bills = weighed(&held[..n], month, &sums)?;
+    Ok(Judged { sums, bills })
 }
