@@ -2,4 +2,5 @@
 -- credits; `Tested` leads from closing's tests to what the credits ask.
 pub mod Months
 pub mod Amounts
+pub mod Totals
 pub mod Tested
