@@ -1,10 +1,11 @@
 -- What a call that has begun a closing knows, group after group of the refusals, and how the groups make up `refusal`.
 use Rattle.std.proofs.Common.{◌≡◌, ◌≤◌, ℕ, ℤ, List, length, take, refl, sym, ap, ◌∙◌, false}
 use lib.Seq.{length-take-le}
-use Rattle.std.specs.Prelude.{Result}
+use Rattle.std.specs.Prelude.{Result, Ok, Err, IsErrAnd}
+use Rattle.std.proofs.lemmas.Result.{err_from_is_err_and}
 use Rattle.rules.specs.declared.Ledger.{Ledger}
 use Rattle.rules.specs.declared.outcomes.Refusal.{Refusal}
-use Rattle.rules.specs.Answers.{verdict_of}
+use Rattle.rules.specs.Answers.{refused_by, verdict_of}
 use Rattle.rules.specs.Verdict.{Verdict, accepted, ◌then◌}
 use Rattle.rules.specs.Lines.{Lines}
 use Rattle.rules.specs.State.{State}
@@ -14,7 +15,16 @@ use Rattle.rules.specs.Calls.{state_of}
 use Rattle.rules.proofs.Tests.{when_then}
 use Rattle.rules.proofs.Passed.{Counts, counts, slices_accepted, tested}
 use Rattle.charges.specs.declared.month.Bills.{Bills}
-use Rattle.closing.specs.Judged.{Begun, Weighs, Judges}
+use Rattle.charges.specs.declared.scan.Sums.{Sums}
+use Rattle.closing.specs.declared.judge.Judged.{Judged}
+use Rattle.charges.specs.Scan.{SumsOf}
+use Rattle.charges.specs.Month.{Billed}
+use Rattle.closing.specs.Judged.{Begun, JudgesBy, Finds, Weighable, Weighs, Judges}
+
+-- refused, with nothing found: what `?` hands on
+pub stops : {T : Type 0} {Found : T → Type 0} {v : Verdict} (e : Refusal) (r : Result T Refusal) → IsErrAnd r (λ (d : Refusal). d ≡ e) → refused_by e ≡ v
+    → JudgesBy v Found r
+stops e r h k = let p = err_from_is_err_and r h in rw p.1 (record { verdict = ap refused_by p.2 ∙ k; found = tt })
 
 module _ {g : Ledger} {held : List ℤ} {l : Lines} {first : Result (Unit {0}) Refusal} {short : Verdict} (b : Begun g held l first short) where
   abbrev st : State
@@ -47,8 +57,13 @@ module _ {g : Ledger} {held : List ℤ} {l : Lines} {first : Result (Unit {0}) R
         held = length-take-le g.users held held_reach ∙ sym known.same_users;
       }
 
-      -- what is found of the sums is what is found of the closing
-      pub judges : {r : Result Bills Refusal} → Weighs st l r → Judges g held short l r
-      judges w =
-          let e : sum_tests st l ≡ refusal st short l = rw (one, three, five) at order in
-          record { verdict = w.verdict ∙ e; bills = w.bills }
+      -- what is left is 8 to 10
+      pub sums_left : sum_tests st l ≡ refusal st short l
+      sums_left = rw (one, three, five) at order
+
+      module _ {s : Sums} (f : SumsOf l s) where
+        pub weighable : Weighable (take g.users held) l s st
+        weighable = record { tests = lines_tested; held_are = refl; sums = f }
+
+        pub finds : {n : Bills} → Weighs st l (Ok n) → Judges g held short l (Ok (record { sums = s; bills = n }))
+        finds w = record { verdict = w.verdict ∙ sums_left; found = record { sums = f; bills = w.found } }

@@ -74,11 +74,11 @@ module _ {bills : Bills} {ledger : Ledger} {l : Lines} {held cells : List ℤ} {
   pub payable : Payable bills.total ledger.month l.line l.agents
   payable = rw (w.last_is, w.bills_are.total) (payable_passed st l w.one_each p)
 
-  pub credits_are : VCsFrom bills.total ledger.month l.line l.agents ≡ VCs st l
-  credits_are = rw (w.last_is, w.bills_are.total)
+  pub credits_are : {total last : ℤ} {vc : List ℤ} → total ≡ bills.total → last ≡ ledger.month → vc ≡ VCsFrom total last l.line l.agents → vc ≡ VCs st l
+  credits_are t m e = e ∙ rw (t, m, w.last_is, w.bills_are.total)
 
   pub payee_count : length (VCs st l) ≡ length l.agents + 1
-  payee_count = length_VCs st l
+  payee_count = omega (arith, length_VCs st l)
 
   -- ---- the debits and the new held credits of the users
   debit_count : length (VDs st l) ≡ length l.users

@@ -1,19 +1,18 @@
 // Why a month comes back (paper 01, "Why a month comes back"), or every user's amounts. Nothing that was lent is written.
-ghost use Rattle.std.specs.Prelude.{IfOk, ◌≤◌, ◌≡◌, length};
-ghost use Rattle.rules.specs.declared.MonthLine.{MonthLine};
+ghost use Rattle.std.specs.Prelude.{◌≤◌, ◌≡◌, length};
 ghost use Rattle.rules.specs.Verdict.{Verdict};
+ghost use Rattle.rules.specs.Answers.{verdict_of};
 ghost use Rattle.rules.specs.Lines.{lines_of};
 ghost use Rattle.rules.specs.State.{State};
-ghost use Rattle.rules.specs.Refusals.{state_tests, line_tests};
-ghost use Rattle.rules.specs.Answers.{verdict_of};
+ghost use Rattle.rules.specs.Refusals.{state_tests};
 ghost use Rattle.rules.specs.Calls.{state_of};
-ghost use Rattle.closing.specs.Judged.{Begun, Weighable, Weighs, Judges};
+ghost use Rattle.closing.specs.Judged.{Begun, Weighable, Scans, Weighs, Judges};
 
 use charges::month::Bills;
 use charges::scan::Sums;
 use rules::{Ledger, MonthLine, MonthLines, Refusal};
 
-// What is found of a month that breaks no limit: the sums of every user's points, and every user's amounts.
+// What is found of a month that breaks no limit: the sums of its points by user, and every user's amounts.
 #[derive(Clone, Copy)]
 pub struct Judged {
     pub sums: Sums,
@@ -21,6 +20,7 @@ pub struct Judged {
 }
 
 // 3 and 4: the month, then the held credits, the first entry for each user.
+#[tactic(auto, unfolding(rules::specs::Refusals::state_tests))]
 fn state_verdict(ledger: Ledger, held: &[i64], line: MonthLine) -> Result<(), Refusal>
     requires { ledger.users ≤ length held.now }
     ensures { verdict_of result ≡ state_tests (state_of ledger held.now) line }
@@ -30,9 +30,10 @@ fn state_verdict(ledger: Ledger, held: &[i64], line: MonthLine) -> Result<(), Re
     refusals::lines::credits_verdict(&held[..n])
 }
 
-// 5 to 7, and the sums of the points that they accept.
+// 5 to 7, and the sums of the points.
+#[tactic(auto, unfolding(rules::specs::Refusals::line_tests))]
 fn lines_verdict(month: MonthLines) -> Result<Sums, Refusal>
-    ensures verdict { verdict_of result ≡ line_tests (lines_of month.entry) }
+    ensures { Scans (lines_of month.entry) result }
 {
     refusals::lines::lines_before_points(month.line, month.agents, month.users)?;
     charges::scan::scan(month.points, month.users)
