@@ -31,8 +31,8 @@ module _ {held : List ℤ} {l : Lines} {s : Sums} {st : State} (t : Weighable he
   pub agents_asked : AgentLines l.agents
   agents_asked = agent_lines (ranged t.tests)
 
-  pub uses_reach : length l.users ≤ length s.uses
-  uses_reach = ?
+  pub few_users : length l.users ≤ 512
+  few_users = (ranged t.tests).few_users
 
   pub total_asked : Summable (first_uses l.users s)
   total_asked = ?
@@ -45,5 +45,9 @@ module _ {held : List ℤ} {l : Lines} {s : Sums} {st : State} (t : Weighable he
   unfolding sum_tests pv_total
   sums_order = rw uses_are refl
 
-  pub bill_asked : weights l s ≡ accepted → Month l.users s (sum_ℤ (pvs l.agents)) held st l
-  bill_asked passed = ?
+  module _ (passed : weights l s ≡ accepted) where
+    pub debits_left : debit_test (sum_ℤ (VDs st l)) ≡ sum_tests st l
+    debits_left = rw passed at sums_order
+
+    pub bill_asked : Month l.users s (sum_ℤ (pvs l.agents)) held st l
+    bill_asked = ?
