@@ -8,6 +8,7 @@ ghost use Rattle.rules.specs.Ranges.{Correction, AmountsFit, Twelfths};
 use rules::Agent;
 
 // Twelfths rounded down: `/` cuts towards zero.
+#[tactic(auto, using(crate::proofs::Euclid::floor_is_euclid))]
 fn floor_12(x: i64) -> i64
     ensures { result ≡ floor x (pos 12) }
 {

@@ -1,4 +1,5 @@
-// Columns of the agent lines, and their sums.
+// Columns of the agent lines, and their sums. By `ints::total_by` these would not prove: its search misses that the amounts of lines in
+// their ranges are summable, and the kit takes no answer there.
 ghost use Rattle.std.specs.Prelude.{◌≡◌, length};
 ghost use Rattle.ints.specs.Sums.{sum_ℤ};
 ghost use Rattle.rules.specs.Charges.{pvs};
