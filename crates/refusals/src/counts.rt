@@ -2,7 +2,8 @@
 ghost use Rattle.std.specs.Prelude.{◌≡◌, ◌||◌, List, ◌≤◌, ℤ, length};
 ghost use Rattle.rules.specs.Verdict.{when};
 ghost use Rattle.rules.specs.Refusals.{bad_users, bad_agents, bad_counts, short_slices, count_tests, opening_refusal};
-ghost use Rattle.rules.specs.Calls.{state_of, verdict_of};
+ghost use Rattle.rules.specs.Answers.{verdict_of};
+ghost use Rattle.rules.specs.Calls.{state_of};
 
 use rules::{Ledger, Lent, MonthLines, Refusal};
 

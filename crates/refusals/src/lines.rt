@@ -4,7 +4,7 @@ ghost use Rattle.ints.specs.Range.{outside, eq_z};
 ghost use Rattle.rules.specs.Verdict.{Verdict, each_line};
 ghost use Rattle.rules.specs.Lines.{bad_amount, bad_correction, bad_amounts, bad_agent, bad_user};
 ghost use Rattle.rules.specs.Refusals.{credit_test, agent_test, user_test, lines_before_points};
-ghost use Rattle.rules.specs.Calls.{verdict_of};
+ghost use Rattle.rules.specs.Answers.{verdict_of};
 
 use rules::{Agent, Kind, MonthLine, Refusal, User};
 

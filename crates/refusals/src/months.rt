@@ -3,7 +3,7 @@ ghost use Rattle.std.specs.Prelude.{◌≡◌};
 ghost use Rattle.rules.specs.Verdict.{when};
 ghost use Rattle.rules.specs.Calendar.{impossible_month};
 ghost use Rattle.rules.specs.Refusals.{bad_month};
-ghost use Rattle.rules.specs.Calls.{verdict_of};
+ghost use Rattle.rules.specs.Answers.{verdict_of};
 
 use rules::Refusal;
 

@@ -4,7 +4,7 @@ ghost use Rattle.ints.specs.Range.{outside};
 ghost use Rattle.rules.specs.Lines.{kind_of, bad_tariff, bad_discount, bad_power, bad_band, bad_point, unfit_point};
 ghost use Rattle.rules.specs.Kinds.{IsKind};
 ghost use Rattle.rules.specs.Refusals.{point_test};
-ghost use Rattle.rules.specs.Calls.{verdict_of};
+ghost use Rattle.rules.specs.Answers.{verdict_of};
 
 use rules::{Kind, Point, Refusal, User};
 

@@ -1,6 +1,6 @@
 -- What the test tells of line i is the verdict on it: the next lines are looked at only where it is accepted.
 use Rattle.std.proofs.Common.{◌≡◌, ◌+◌, Err, sym, ap, ◌∙◌, rules, arith}
-use Rattle.rules.specs.Calls.{verdict_of}
+use Rattle.rules.specs.Answers.{verdict_of}
 use Rattle.rules.proofs.Turns.{none_past, line_refused, line_past, all_past}
 use Rattle.refusals.proofs.lines.each_line.Goals as goal
 
