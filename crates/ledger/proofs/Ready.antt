@@ -9,7 +9,7 @@ use base.Fraction.{full_share}
 use lib.IntN.{ℤ}
 use mir.Syntax.{w64, Lifetime, named}
 use mir.Val.{Val, vint, vstruct, of_list, Fits}
-use base.Logic.{SProp, ent, sep, ex, guard, emp, id⊢, via, comm∗, assoc∗, assoc', mono_l, mono_r, emp∗, ex_i, guard_i}
+use base.Logic.{SProp, ent, sep, guard, emp, id⊢, via, comm∗, assoc∗, assoc', mono_l, mono_r, emp∗, ex_i, guard_i}
 use base.Fml.{Lft, Fml}
 use prog.Memory.{Memory}
 use prog.Model.{Model}

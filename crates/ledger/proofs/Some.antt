@@ -205,7 +205,7 @@ short_first κ κs months =
       opened = s.opened;
       first =
           called κs g [] short_month (record { answer = Err (ShortSlice Held); ledger = g }) [] [] []
-              (closes_refused g [] (input short_month).lines [] [] (ShortSlice Held) refl);
+          (closes_refused g [] (input short_month).lines [] [] (ShortSlice Held) refl);
       month = refl;
       lent = refl;
       answer = refl;

@@ -26,8 +26,6 @@ use denote.RattleType.{RattleType}
 use denote.Memory.{mem}
 use denote.Builtin.{u64, i64}
 use denote.Slice.{Room}
-use Rattle.rules.specs.declared.Agent.{Agent}
-use Rattle.rules.specs.declared.User.{User}
 use Rattle.rules.specs.declared.outcomes.Outcome.{Outcome}
 use Rattle.rules.specs.Verdict.{accepted}
 use Rattle.rules.specs.Answers.{verdict_of}

@@ -1,5 +1,5 @@
 -- An accepted opening has an entry for each user, and leaves each at 0.
-use Rattle.std.proofs.Common.{◌≡◌, ℕ, ◌≤◌, length, sym, rules}
+use Rattle.std.proofs.Common.{◌≡◌, ℕ, ◌≤◌, sym, rules}
 use lib.Seq.{length-take-le}
 use borrow.Author.Tests.{ltb-false}
 use Rattle.rules.specs.Verdict.{accepted}
