@@ -3,29 +3,18 @@
 ghost use Rattle.std.specs.Prelude.{◌≡◌, ◌+◌, ◌*◌, ◌<◌, ◌≤◌, length};
 ghost use Rattle.cells.specs.Kept.{Grid, Kept};
 
-fn clear(counts: &mut [u64]) {
-    let mut i = 0;
-    while i < counts.len() {
-        counts[i] = 0;
-        i += 1;
-    }
-}
+use super::{BROKEN, MARKED};
 
-// Adds to counts[k] how many columns want k marks and have a broken cell without one in row i.
+// Sets counts[k] to how many columns want k marks and have a broken cell without one in row i.
 fn count_wants(marks: &[u64], wants: &[u64], i: usize, counts: &mut [u64])
     requires { i * length wants.now + length wants.now ≤ length marks.now }
 {
-    let n = wants.len();
-    let base = i * n;
-    let mut j = 0;
-    while j < n {
-        let x = j;
-        j += 1;
-        let k = wants[x] as usize;
-        if k < counts.len() {
-            if marks[base + x] == 1 {
-                counts[k] = std::num::wrapping_add_u64(counts[k], 1);
-            }
+    let base = i * wants.len();
+    counts.fill(0);
+    for (j, &want) in wants.iter().enumerate() {
+        let k = want as usize;
+        if k < counts.len() && marks[base + j] == BROKEN {
+            counts[k] += 1;
         }
     }
 }
@@ -35,9 +24,7 @@ fn level(counts: &[u64], k: u64) -> u64
     ensures { (0 < result) × (result ≤ length counts.now + 1) }
 {
     let mut left = k;
-    let mut t = counts.len();
-    while t > 1 {
-        t -= 1;
+    for t in (2..counts.len()).rev() {
         if counts[t] >= left {
             return t as u64;
         }
@@ -52,20 +39,12 @@ fn take(marks: &mut [u64], lacks: &mut [u64], wants: &mut [u64], i: usize, least
     ensures { Kept (length lacks.old) (length wants.old) marks.old lacks.old wants.old
         marks.new lacks.new wants.new }
 {
-    let m = lacks.len();
     let n = wants.len();
-    let mut j = 0;
-    while j < n {
-        let x = j;
-        j += 1;
-        if wants[x] >= least {
-            if marks[i * n + x] == 1 {
-                if lacks[i] > 0 {
-                    marks[i * n + x] = 2;
-                    wants[x] -= 1;
-                    lacks[i] -= 1;
-                }
-            }
+    for j in 0..n {
+        if wants[j] >= least && marks[i * n + j] == BROKEN && lacks[i] > 0 {
+            marks[i * n + j] = MARKED;
+            wants[j] -= 1;
+            lacks[i] -= 1;
         }
     }
 }
@@ -76,7 +55,6 @@ fn deal_row(marks: &mut [u64], lacks: &mut [u64], wants: &mut [u64], counts: &mu
     ensures { Kept (length lacks.old) (length wants.old) marks.old lacks.old wants.old
         marks.new lacks.new wants.new }
 {
-    clear(counts);
     count_wants(marks, wants, i, counts);
     let l = level(counts, lacks[i]);
     take(marks, lacks, wants, i, l + 1);
@@ -89,11 +67,7 @@ pub(crate) fn deal(marks: &mut [u64], lacks: &mut [u64], wants: &mut [u64], coun
     ensures { Kept (length lacks.old) (length wants.old) marks.old lacks.old wants.old
         marks.new lacks.new wants.new }
 {
-    let m = lacks.len();
-    let n = wants.len();
-    let mut i = 0;
-    while i < m {
+    for i in 0..lacks.len() {
         deal_row(marks, lacks, wants, counts, i);
-        i += 1;
     }
 }

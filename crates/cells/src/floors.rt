@@ -5,28 +5,27 @@ ghost use Rattle.cells.specs.Naturals.{Unsigned, Naturals};
 ghost use Rattle.cells.specs.Rows.{Carried, RowAsks, RowFloors};
 ghost use Rattle.cells.specs.Floors.{Given, Slices, Floored};
 
+use super::{BROKEN, WHOLE};
+
 // The debits as unsigned numbers; their sum.
 pub(crate) fn naturals(vd: &[i64], debits: &mut [u64]) -> u64
     requires { Unsigned vd.now debits.old }
     ensures { Naturals vd.now debits.old debits.new (length vd.now) result }
 {
-    let n = vd.len();
-    let mut sum: u64 = 0;
-    let mut j = 0;
-    while j < n {
-        let x = vd[j] as u64;
-        debits[j] = x;
-        sum += x;
-        j += 1;
+    let mut sum = 0;
+    for (j, &v) in vd.iter().enumerate() {
+        let debit = v as u64;
+        debits[j] = debit;
+        sum += debit;
     }
     sum
 }
 
-// 1 where something is left over.
-fn broken(rest: u64) -> u64
+// A cell of whose exact value this is left over.
+fn mark(rest: u64) -> u64
     ensures { result ≡ min 1 rest }
 {
-    if rest > 0 { 1 } else { 0 }
+    if rest == 0 { WHOLE } else { BROKEN }
 }
 
 // How often s has w in it: not at all, or once.
@@ -34,7 +33,7 @@ fn carry(s: u64, w: u64) -> u64
     requires { s < w + w }
     ensures { Carried s w result }
 {
-    if s < w { 0 } else { 1 }
+    u64::from(s >= w)
 }
 
 // The floors of one row, whose credit is v: its cells, from base on, and which of them are broken. The remainders are added to the
@@ -53,28 +52,22 @@ fn floor_row(
     ensures { RowFloors v debits.now w cells.old marks.old wants.old lefts.old base
         cells.new marks.new wants.new lefts.new (length debits.now) result }
 {
-    let n = debits.len();
     let k = share::weights::rate_of(share::size(v), w);
-    let mut lacks: u64 = 0;
-    let mut left: u64 = 0;
-    let mut j = 0;
-    while j < n {
-        let x = debits[j];
+    let mut lacks = 0;
+    let mut left = 0;
+    for (j, &x) in debits.iter().enumerate() {
         let p = share::weights::at_rate(k, x, w);
         let f = share::signed(v, x, w, p);
-        let q = f.quot;
-        let r = f.rem;
-        cells[base + j] = q;
-        marks[base + j] = broken(r);
-        let s = lefts[j] + r;
+        cells[base + j] = f.quot;
+        marks[base + j] = mark(f.rem);
+        let s = lefts[j] + f.rem;
         let c = carry(s, w);
         lefts[j] = s - c * w;
-        wants[j] = wants[j] + c;
-        let t = left + r;
+        wants[j] += c;
+        let t = left + f.rem;
         let d = carry(t, w);
         left = t - d * w;
         lacks += d;
-        j += 1;
     }
     lacks
 }
@@ -93,11 +86,7 @@ pub(crate) fn floors(
     requires { Given vc.now debits.now w × Slices vc.now debits.now cells.old marks.old lacks.old wants.old lefts.old }
     ensures { Floored vc.now debits.now w cells.new marks.new lacks.new wants.new }
 {
-    let m = vc.len();
-    let n = debits.len();
-    let mut i = 0;
-    while i < m {
-        lacks[i] = floor_row(vc[i], debits, w, cells, marks, wants, lefts, i * n);
-        i += 1;
+    for (i, &v) in vc.iter().enumerate() {
+        lacks[i] = floor_row(v, debits, w, cells, marks, wants, lefts, i * debits.len());
     }
 }

@@ -11,12 +11,18 @@ ghost use Rattle.std.specs.Prelude.{◌≡◌, ◌-◌, ◌*◌, ◌≤◌, leng
 ghost use Rattle.rules.specs.Table.{Table};
 ghost use Rattle.cells.specs.Finish.{Fillable, Room, PostAsks, Posted};
 
+// What a cell can be: whole; broken, so that its exact value is above its floor; broken, and marked to take the cent above.
+// Numbers, and no enum: they stand in the work slice, which the caller lends as numbers.
+const WHOLE: u64 = 0;
+const BROKEN: u64 = 1;
+const MARKED: u64 = 2;
+
 // The cent that a cell's mark adds to its floor.
 fn cent(mark: u64) -> i64
     requires { mark ≤ 2 }
     ensures { result ≡ pos (mark - 1) }
 {
-    if mark == 2 { 1 } else { 0 }
+    i64::from(mark == MARKED)
 }
 
 // Adds the marks to the floors.
@@ -24,12 +30,8 @@ fn post(cells: &mut [i64], marks: &[u64])
     requires { PostAsks cells.old marks.now }
     ensures { Posted cells.old marks.now cells.new (length cells.old) }
 {
-    let n = cells.len();
-    let mut i = 0;
-    while i < n {
-        let e = cent(marks[i]);
-        cells[i] = cells[i] + e;
-        i += 1;
+    for (i, &mark) in marks.iter().enumerate() {
+        cells[i] += cent(mark);
     }
 }
 

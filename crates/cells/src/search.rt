@@ -2,7 +2,9 @@
 // A cell is 0 (whole), 1 (broken) or 2 (broken and marked); an entry of `rows` and `columns` is above 0 while that row or column is open.
 ghost use Rattle.std.specs.Prelude.{◌≡◌, ℕ, ◌+◌, ◌*◌, ◌<◌, ◌≤◌, length, replicate, slice_index};
 ghost use Rattle.cells.specs.Visit.{Shape, Free, RowVisited, ColVisited};
-ghost use Rattle.cells.specs.Place.{Wanted, Placed};
+ghost use Rattle.cells.specs.Place.{Wanted, RowPlaced, Placed};
+
+use super::{BROKEN, MARKED};
 
 // Of the open columns whose cell in row i is broken and has no mark, the one that wants most; the number of columns where none wants any.
 fn most_wanting(marks: &[u64], wants: &[u64], columns: &[u64], i: usize) -> usize
@@ -10,20 +12,12 @@ fn most_wanting(marks: &[u64], wants: &[u64], columns: &[u64], i: usize) -> usiz
     ensures { Free (length columns.now) marks.now wants.now columns.now i result }
 {
     let n = columns.len();
-    let base = i * n;
     let mut best = n;
-    let mut most: u64 = 0;
-    let mut j = 0;
-    while j < n {
-        let x = j;
-        j += 1;
-        if wants[x] > most {
-            if marks[base + x] == 1 {
-                if columns[x] > 0 {
-                    best = x;
-                    most = wants[x];
-                }
-            }
+    let mut most = 0;
+    for j in 0..n {
+        if wants[j] > most && marks[i * n + j] == BROKEN && columns[j] > 0 {
+            best = j;
+            most = wants[j];
         }
     }
     best
@@ -42,26 +36,18 @@ pub(crate) fn visit_row(
     ensures { RowVisited (length rows.old) (length columns.old) marks.old wants.old rows.old
         columns.old marks.new wants.new rows.new columns.new i result }
 {
-    let m = rows.len();
     let n = columns.len();
     rows[i] = 0;
     let f = most_wanting(marks, wants, columns, i);
     if f < n {
         wants[f] -= 1;
-        marks[i * n + f] = 2;
+        marks[i * n + f] = MARKED;
         return true;
     }
-    let mut j = 0;
-    while j < n {
-        let x = j;
-        j += 1;
-        if columns[x] > 0 {
-            if marks[i * n + x] == 1 {
-                if visit_column(marks, wants, rows, columns, x) {
-                    marks[i * n + x] = 2;
-                    return true;
-                }
-            }
+    for j in 0..n {
+        if columns[j] > 0 && marks[i * n + j] == BROKEN && visit_column(marks, wants, rows, columns, j) {
+            marks[i * n + j] = MARKED;
+            return true;
         }
     }
     false
@@ -81,33 +67,35 @@ pub(crate) fn visit_column(
     ensures { ColVisited (length rows.old) (length columns.old) marks.old wants.old rows.old
         columns.old marks.new wants.new rows.new columns.new j result }
 {
-    let m = rows.len();
     let n = columns.len();
     columns[j] = 0;
-    let mut i = 0;
-    while i < m {
-        let b = i;
-        i += 1;
-        if rows[b] > 0 {
-            if marks[b * n + j] == 2 {
-                if visit_row(marks, wants, rows, columns, b) {
-                    marks[b * n + j] = 1;
-                    return true;
-                }
-            }
+    for i in 0..rows.len() {
+        if rows[i] > 0 && marks[i * n + j] == MARKED && visit_row(marks, wants, rows, columns, i) {
+            marks[i * n + j] = BROKEN;
+            return true;
         }
     }
     false
 }
 
-// Opens every row, or every column.
-fn reopen(all: &mut [u64])
-    ensures { all.new ≡ replicate (length all.old) 1 }
+// Gives row i every mark that it lacks.
+fn place_row(
+    marks: &mut [u64],
+    lacks: &mut [u64],
+    wants: &mut [u64],
+    rows: &mut [u64],
+    columns: &mut [u64],
+    i: usize,
+)
+    requires { Wanted marks.old lacks.old wants.old rows.old columns.old × (i < length rows.old) }
+    ensures { RowPlaced (length rows.old) (length columns.old) marks.old lacks.old wants.old
+        marks.new lacks.new wants.new i }
 {
-    let mut i = 0;
-    while i < all.len() {
-        all[i] = 1;
-        i += 1;
+    while lacks[i] > 0 {
+        rows.fill(1);
+        columns.fill(1);
+        visit_row(marks, wants, rows, columns, i);
+        lacks[i] -= 1;
     }
 }
 
@@ -123,17 +111,7 @@ pub(crate) fn place(
     ensures { Placed (length rows.old) (length columns.old) marks.old lacks.old wants.old
         marks.new }
 {
-    let m = rows.len();
-    let n = columns.len();
-    let mut i = 0;
-    while i < m {
-        if lacks[i] > 0 {
-            reopen(rows);
-            reopen(columns);
-            visit_row(marks, wants, rows, columns, i);
-            lacks[i] -= 1;
-        } else {
-            i += 1;
-        }
+    for i in 0..rows.len() {
+        place_row(marks, lacks, wants, rows, columns, i);
     }
 }

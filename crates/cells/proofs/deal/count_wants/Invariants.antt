@@ -1,9 +1,6 @@
--- Only the length matters: what is counted is a choice.
-use Rattle.std.proofs.Common.{◌≡◌, ◌-◌, ◌≤◌, length}
+-- No count is above the number of columns that were looked at.
+use Rattle.std.proofs.Common.{ℕ, ◌≤◌, get_or}
 use Rattle.cells.proofs.deal.count_wants.Given as goal
 
 abbrev pub invariant-loop-j : goal.invariant-loop-j
-invariant-loop-j l = (l.j ≤ l.n) × (length l.counts ≡ length l.initial.counts)
-
-abbrev pub decreases-loop-j : goal.decreases-loop-j
-decreases-loop-j l = l.n - l.j
+invariant-loop-j l = (k : ℕ) → get_or l.counts k 0 ≤ l.j

@@ -3,14 +3,18 @@ use Rattle.std.proofs.Common.{arith}
 use Rattle.cells.specs.Marks.{below}
 use Rattle.cells.specs.Kept.{kept_then, kept_mark}
 use Rattle.cells.proofs.deal.take.Goals as goal
+use Rattle.cells.proofs.deal.take.Goals.{then-wants-j+then-marks-i-eq-BROKEN+then-lacks-i-gt0, else-wants-j}
 
-pub loop-j-preserved-then-lacks-i-gt0 : goal.loop-j-preserved-then-lacks-i-gt0
-loop-j-preserved-then-lacks-i-gt0 c =
+pub loop-j-preserved : goal.loop-j-preserved
+loop-j-preserved c =
     let s = c.args in
-    let k = c.loop-j.invariant.1 in (
-      omega (arith, c.loop-j-test.true),
-      kept_then k
-          (kept_mark _ _ _ s.i c.loop-j.j c.requires.1 c.loop-j-test.true
-          (omega (arith, below c.requires.1 c.loop-j-test.true, c.requires.0.cells, k.cells)) (omega (arith, k.tall))
-          (omega (arith, k.wide)) c.if-marks-i-eq1.true c.if-lacks-i-gt0.true (omega (arith, c.if-wants-x.true, c.requires.2))),
-    )
+    let k = c.loop-j.invariant in
+    elim c.if-wants-j.branch [
+      then-wants-j+then-marks-i-eq-BROKEN+then-lacks-i-gt0 w ↦
+          rw (w.marks-is, w.lacks-is, w.wants-is)
+          (kept_then k
+              (kept_mark _ _ _ s.i c.loop-j.j c.requires.1 c.loop-j-test.true
+              (omega (arith, below c.requires.1 c.loop-j-test.true, c.requires.0.cells, k.cells)) (omega (arith, k.tall))
+              (omega (arith, k.wide)) w.if-marks-i-eq-BROKEN.true w.if-lacks-i-gt0.true (omega (arith, w.if-wants-j.true, c.requires.2))))
+    | else-wants-j w ↦ rw (w.marks-is, w.lacks-is, w.wants-is) k
+    ]

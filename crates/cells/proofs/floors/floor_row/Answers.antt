@@ -14,8 +14,8 @@ loop-j-preserved c =
     let a : RowAsks (back s.v) s.debits.now s.w s.cells.now s.marks.now s.wants.now s.lefts.now s.base = rw (to_z-of_z c.ranges.v) c.requires in
     let g : SFits w64 f.result.quot = search rules in
     rw (to_z-of_z g)
-    (row_more a c.loop-j.invariant c.loop-j-test.true f.result.quot f.result.rem (quot_is f.ensures) (rest_is f.ensures) c.broken.result
-    c.broken.ensures c.carry-c.result c.carry-c.ensures c.carry-d.result c.carry-d.ensures)
+    (row_more a c.loop-j.invariant c.loop-j-test.true f.result.quot f.result.rem (quot_is f.ensures) (rest_is f.ensures) c.mark.result
+    c.mark.ensures c.carry-c.result c.carry-c.ensures c.carry-d.result c.carry-d.ensures)
 
 pub returns : goal.returns
 returns c = let e : c.loop-j.j ≡ length c.args.debits.now = omega (arith, c.loop-j.invariant.row.here) in

@@ -1,10 +1,6 @@
 -- Row by row; the rows below i are done.
-use Rattle.std.proofs.Common.{◌-◌}
 use Rattle.cells.specs.Floors.{Rowed}
 use Rattle.cells.proofs.floors.floors.Given as goal
 
 abbrev pub invariant-loop-i : goal.invariant-loop-i
 invariant-loop-i l = Rowed l.vc l.debits l.w l.cells l.marks l.lacks l.wants l.lefts l.i
-
-abbrev pub decreases-loop-i : goal.decreases-loop-i
-decreases-loop-i l = l.m - l.i

@@ -3,6 +3,12 @@ use Rattle.cells.specs.Marks.{below}
 use Rattle.cells.specs.Turns.{row_now, row_start, row_skip, row_miss, row_wants, row_less, row_hit, row_last}
 use Rattle.cells.specs.Turns.{col_start, col_skip, col_miss, col_less, col_hit, col_last}
 use Rattle.cells.proofs.search.+visit.Goals as goal
+use Rattle.cells.proofs.search.+visit.Goals.{visit_column-else-rows-i-gt0-via-then-rows-i-gt0+then-marks-i-eq-MARKED+else-visit_row}
+use Rattle.cells.proofs.search.+visit.Goals.{visit_column-else-rows-i-gt0-via-then-rows-i-gt0+else-marks-i-eq-MARKED}
+use Rattle.cells.proofs.search.+visit.Goals.{visit_column-else-rows-i-gt0-via-else-rows-i-gt0}
+use Rattle.cells.proofs.search.+visit.Goals.{visit_row-else-columns-j-gt0-via-then-columns-j-gt0+then-marks-i-eq-BROKEN+else-visit_column}
+use Rattle.cells.proofs.search.+visit.Goals.{visit_row-else-columns-j-gt0-via-then-columns-j-gt0+else-marks-i-eq-BROKEN}
+use Rattle.cells.proofs.search.+visit.Goals.{visit_row-else-columns-j-gt0-via-else-columns-j-gt0}
 
 pub visit_column-loop-i-init : goal.visit_column-loop-i-init
 visit_column-loop-i-init t c = let s = c.args in col_start s.marks.now s.wants.now s.rows.now (slice_set s.columns.now s.j 0) s.j refl
@@ -19,29 +25,34 @@ visit_column-visit_row-requires t c =
           wide = ap length I.0.wants ∙ c.requires.0.wide ∙ sym I.0.long;
         },
         omega (arith, I.0.tall),
-        c.if-rows-b-gt0.true,
+        c.if-rows-i-gt0.true,
       ),
     )
 
 pub visit_column-returns-then-visit_row : goal.visit_column-returns-then-visit_row
 visit_column-returns-then-visit_row t c =
     let s = c.args in
-    col_hit s.columns.now s.j c.requires.1 c.requires.2 c.loop-i.i c.loop-i.invariant c.visit_row.result (omega arith)
+    col_hit s.columns.now s.j c.requires.1 c.requires.2 c.loop-i.i c.loop-i.invariant c.visit_row.result c.loop-i-test.true
     (omega (arith, c.requires.0.cells, below c.loop-i-test.true c.requires.1, c.visit_row.auto.marks))
-    c.if-marks-b-eq2.true c.if-rows-b-gt0.true c.visit_row.ensures c.if-visit_row.true
-
-pub visit_column-loop-i-preserved-else-visit_row : goal.visit_column-loop-i-preserved-else-visit_row
-visit_column-loop-i-preserved-else-visit_row t c =
-    let v = c.visit_row in
-    col_miss c.args.j c.loop-i.i c.loop-i.invariant c.loop-i-test.true v.result v.ensures c.if-visit_row.false v.auto.rows v.auto.columns
-
-pub visit_column-loop-i-preserved-else-marks-b-eq2 : goal.visit_column-loop-i-preserved-else-marks-b-eq2
-visit_column-loop-i-preserved-else-marks-b-eq2 t c =
-    col_skip c.args.j c.loop-i.i c.loop-i.invariant c.loop-i-test.true (λ e. absurd (c.if-marks-b-eq2.false e))
+    c.if-marks-i-eq-MARKED.true c.if-rows-i-gt0.true c.visit_row.ensures c.if-visit_row.true
 
 pub visit_column-loop-i-preserved : goal.visit_column-loop-i-preserved
 visit_column-loop-i-preserved t c =
-    col_skip c.args.j c.loop-i.i c.loop-i.invariant c.loop-i-test.true (λ e. omega arith)
+    let s = c.args in
+    let l = c.loop-i in
+    let h = c.loop-i-test.true in
+    elim c.else-rows-i-gt0.branch [
+      visit_column-else-rows-i-gt0-via-then-rows-i-gt0+then-marks-i-eq-MARKED+else-visit_row w ↦
+          let v = w.visit_row in
+          rw (w.marks-is, w.wants-is, w.rows-is, w.columns-is)
+          (col_miss s.j l.i l.invariant h v.result v.ensures w.if-visit_row.false v.auto.rows v.auto.columns)
+    | visit_column-else-rows-i-gt0-via-then-rows-i-gt0+else-marks-i-eq-MARKED w ↦
+          rw (w.marks-is, w.wants-is, w.rows-is, w.columns-is)
+          (col_skip s.j l.i l.invariant h (λ e. absurd (w.if-marks-i-eq-MARKED.false e)))
+    | visit_column-else-rows-i-gt0-via-else-rows-i-gt0 w ↦
+          rw (w.marks-is, w.wants-is, w.rows-is, w.columns-is)
+          (col_skip s.j l.i l.invariant h (λ e. omega (arith, w.if-rows-i-gt0.false)))
+    ]
 
 pub visit_column-returns : goal.visit_column-returns
 visit_column-returns t c =
@@ -67,9 +78,9 @@ visit_row-visit_column-requires t c =
           wide = ap length I.0.wants ∙ c.requires.0.wide ∙ sym I.0.long;
         },
         omega (arith, I.0.long),
-        c.if-columns-x-gt0.true,
-        row_wants s.i c.loop-j.j I c.loop-j-test.true c.most_wanting-f.result c.most_wanting-f.ensures c.if-f-n.false c.if-marks-i-eq1.true
-            c.if-columns-x-gt0.true,
+        c.if-columns-j-gt0.true,
+        row_wants s.i c.loop-j.j I c.loop-j-test.true c.most_wanting-f.result c.most_wanting-f.ensures c.if-f-n.false c.if-marks-i-eq-BROKEN.true
+            c.if-columns-j-gt0.true,
       ),
     )
 
@@ -78,20 +89,25 @@ visit_row-returns-then-visit_column t c =
     let s = c.args in
     row_hit s.rows.now s.i c.requires.1 c.requires.2 c.loop-j.j c.loop-j.invariant c.visit_column.result c.loop-j-test.true
     (omega (arith, c.requires.0.cells, below c.requires.1 c.loop-j-test.true, c.visit_column.auto.marks))
-    c.if-marks-i-eq1.true c.if-columns-x-gt0.true c.visit_column.ensures c.if-visit_column.true
-
-pub visit_row-loop-j-preserved-else-visit_column : goal.visit_row-loop-j-preserved-else-visit_column
-visit_row-loop-j-preserved-else-visit_column t c =
-    let v = c.visit_column in
-    row_miss c.args.i c.loop-j.j c.loop-j.invariant c.loop-j-test.true v.result v.ensures c.if-visit_column.false v.auto.rows v.auto.columns
-
-pub visit_row-loop-j-preserved-else-marks-i-eq1 : goal.visit_row-loop-j-preserved-else-marks-i-eq1
-visit_row-loop-j-preserved-else-marks-i-eq1 t c =
-    row_skip c.args.i c.loop-j.j c.loop-j.invariant c.loop-j-test.true (λ e. absurd (c.if-marks-i-eq1.false e))
+    c.if-marks-i-eq-BROKEN.true c.if-columns-j-gt0.true c.visit_column.ensures c.if-visit_column.true
 
 pub visit_row-loop-j-preserved : goal.visit_row-loop-j-preserved
 visit_row-loop-j-preserved t c =
-    row_skip c.args.i c.loop-j.j c.loop-j.invariant c.loop-j-test.true (λ e. omega arith)
+    let s = c.args in
+    let l = c.loop-j in
+    let h = c.loop-j-test.true in
+    elim c.else-columns-j-gt0.branch [
+      visit_row-else-columns-j-gt0-via-then-columns-j-gt0+then-marks-i-eq-BROKEN+else-visit_column w ↦
+          let v = w.visit_column in
+          rw (w.marks-is, w.wants-is, w.rows-is, w.columns-is)
+          (row_miss s.i l.j l.invariant h v.result v.ensures w.if-visit_column.false v.auto.rows v.auto.columns)
+    | visit_row-else-columns-j-gt0-via-then-columns-j-gt0+else-marks-i-eq-BROKEN w ↦
+          rw (w.marks-is, w.wants-is, w.rows-is, w.columns-is)
+          (row_skip s.i l.j l.invariant h (λ e. absurd (w.if-marks-i-eq-BROKEN.false e)))
+    | visit_row-else-columns-j-gt0-via-else-columns-j-gt0 w ↦
+          rw (w.marks-is, w.wants-is, w.rows-is, w.columns-is)
+          (row_skip s.i l.j l.invariant h (λ e. omega (arith, w.if-columns-j-gt0.false)))
+    ]
 
 pub visit_row-returns : goal.visit_row-returns
 visit_row-returns t c =
