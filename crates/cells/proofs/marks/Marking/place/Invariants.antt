@@ -1,6 +1,6 @@
 use Rattle.std.proofs.Common.{length}
 use Rattle.cells.specs.Place.{Going}
-use Rattle.cells.proofs.search.place.Given as goal
+use Rattle.cells.proofs.marks.Marking.place.Given as goal
 
 abbrev pub invariant-loop-i : goal.invariant-loop-i
 invariant-loop-i l =

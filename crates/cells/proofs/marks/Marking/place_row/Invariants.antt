@@ -1,6 +1,6 @@
 use Rattle.std.proofs.Common.{length, slice_index}
 use Rattle.cells.specs.Place.{Placing}
-use Rattle.cells.proofs.search.place_row.Given as goal
+use Rattle.cells.proofs.marks.Marking.place_row.Given as goal
 
 abbrev pub invariant-loop-lacks : goal.invariant-loop-lacks
 invariant-loop-lacks l =

@@ -2,7 +2,7 @@
 use Rattle.std.proofs.Common.{◌≡◌, ℕ, ◌<◌, length, replicate, get_or, sym, ap, ◌∙◌, arith, rules}
 use Rattle.std.proofs.lemmas.List.{get_or-replicate}
 use Rattle.cells.specs.Place.{kept_more, placing_on}
-use Rattle.cells.proofs.search.place_row.Goals as goal
+use Rattle.cells.proofs.marks.Marking.place_row.Goals as goal
 
 pub loop-lacks-preserved : goal.loop-lacks-preserved
 loop-lacks-preserved c =
