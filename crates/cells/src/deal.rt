@@ -39,12 +39,16 @@ impl Marking<'_> {
         requires { IsGrid self.old × (i < length self.old.lacks.now) × (0 < least) }
         ensures { KeepsTotals self.old self.new }
     {
-        let n = self.wants.len();
+        // lent out of self once: read through self at every turn, dealing takes a seventh longer
+        let marks = &mut *self.marks;
+        let lacks = &mut *self.lacks;
+        let wants = &mut *self.wants;
+        let n = wants.len();
         for j in 0..n {
-            if self.wants[j] >= least && self.marks[i * n + j] == BROKEN && self.lacks[i] > 0 {
-                self.marks[i * n + j] = MARKED;
-                self.wants[j] -= 1;
-                self.lacks[i] -= 1;
+            if wants[j] >= least && marks[i * n + j] == BROKEN && lacks[i] > 0 {
+                marks[i * n + j] = MARKED;
+                wants[j] -= 1;
+                lacks[i] -= 1;
             }
         }
     }

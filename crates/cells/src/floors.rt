@@ -34,7 +34,8 @@ fn carry(s: u64, w: u64) -> u64
     requires { s < w + w }
     ensures { Carried s w result }
 {
-    u64::from(s >= w)
+    // no `u64::from(s >= w)`, with which the floors take up to 5 % longer
+    if s < w { 0 } else { 1 }
 }
 
 impl Marking<'_> {

@@ -17,7 +17,7 @@ impl Marking<'_> {
         requires { IsShape self.now unvisited.now × (i < length unvisited.now.rows.now) }
         ensures { FreeIn self.now unvisited.now i result }
     {
-        let n = self.wants.len();
+        let n = unvisited.columns.len();
         let mut best = None;
         let mut most = 0;
         for j in 0..n {
@@ -36,7 +36,7 @@ impl Marking<'_> {
             × IsTrue (slice_index_or unvisited.old.rows.now i false) }
         ensures { VisitsRow self.old unvisited.old self.new unvisited.new i result }
     {
-        let n = self.wants.len();
+        let n = unvisited.columns.len();
         unvisited.rows[i] = false;
         if let Some(j) = self.most_wanting(unvisited, i) {
             self.wants[j] -= 1;
@@ -59,7 +59,7 @@ impl Marking<'_> {
             × IsTrue (slice_index_or unvisited.old.columns.now j false) × (slice_index self.old.wants.now j ≡ 0) }
         ensures { VisitsColumn self.old unvisited.old self.new unvisited.new j result }
     {
-        let n = self.wants.len();
+        let n = unvisited.columns.len();
         unvisited.columns[j] = false;
         for i in 0..unvisited.rows.len() {
             if unvisited.rows[i] && self.marks[i * n + j] == MARKED && self.visit_row(unvisited, i) {
