@@ -1,21 +1,22 @@
 -- xs holds the cells' states, wr what each row lacks, wc what each column wants, ro and co what is open.
 -- The driver: every row gets the marks that it wants, and so does every column, wherever some table of numbers (Feasible) says that this can be.
 use Rattle.std.specs.Prelude.{◌≡◌, ℕ, ◌+◌, ◌-◌, ◌*◌, ◌<◌, ◌≤◌, ◌≢◌, Bool, true, false, List, length, replicate, slice_index, slice_index_or, slice_set, refl}
-use Rattle.std.proofs.Common.{sym, ap, ap₂, ◌∙◌, arith, below_none, below_more, length-set, get_or-set_other}
+use Rattle.std.proofs.Common.{sym, ap, ◌∙◌, arith, below_none, below_more, length-set, get_or-set_other}
 use Rattle.std.proofs.Math.Nat.{le_of_mul-le-mul_left}
 use Rattle.std.proofs.lemmas.List.{get_or-replicate}
 use Rattle.ints.specs.NatSums.{Σ, Σ_ext, Σ_scale, Σ_swap, Σ_same}
 use Rattle.cells.specs.Cut.{cut_rows}
 use Rattle.cells.specs.Marks.{at, row, col, one, Kind}
 use Rattle.cells.specs.Kept.{Feasible, still, Kept, kept_none, kept_then, less_one}
-use Rattle.cells.specs.Visit.{Shape, Shut, Moved, RowVisited}
+use Rattle.cells.specs.Visit.{Shut, Moved, RowVisited}
 
 -- what the driver is given, and what it leaves
-pub record Wanted (xs wr wc ro co : List ℕ) : Type 0 where
-  pub shape : Shape xs wc ro co
-  pub tall : length wr ≡ length ro
+pub record Wanted (m n : ℕ) (xs wr wc : List ℕ) : Type 0 where
+  pub cells : length xs ≡ m * n
+  pub tall : length wr ≡ m
+  pub wide : length wc ≡ n
   pub small : (p : ℕ) → slice_index xs p ≤ 2
-  pub feasible : Feasible (length ro) (length co) xs wr wc
+  pub feasible : Feasible m n xs wr wc
 
 pub record Placed (m n : ℕ) (xs wr wc ys : List ℕ) : Type 0 where
   pub rows : (i : ℕ) → i < m → row n ys i ≡ row n xs i + slice_index wr i
@@ -164,11 +165,11 @@ module _ {m n : ℕ} {xs wr wc xs' wr' wc' ro' co' : List ℕ} {i : ℕ} (g : Go
       open_col x l = rw (ec, g.long) (omega (arith, get_or-replicate {A = ℕ} n x 1 0 l))
 
 -- what the driver was given holds of what is left
-pub still_wanted : {xs wr wc ro co xs' wr' wc' ro' co' : List ℕ} → Wanted xs wr wc ro co → Kept (length ro) (length co) xs wr wc xs' wr' wc'
-    → length ro' ≡ length ro → length co' ≡ length co → Wanted xs' wr' wc' ro' co'
-still_wanted W K a b = record {
-  shape = record { cells = K.cells ∙ W.shape.cells ∙ sym (ap₂ ◌*◌ a b); wide = K.wide ∙ W.shape.wide ∙ sym b };
-  tall = K.tall ∙ W.tall ∙ sym a;
+pub still_wanted : {m n : ℕ} {xs wr wc xs' wr' wc' : List ℕ} → Wanted m n xs wr wc → Kept m n xs wr wc xs' wr' wc' → Wanted m n xs' wr' wc'
+still_wanted W K = record {
+  cells = K.cells ∙ W.cells;
+  tall = K.tall ∙ W.tall;
+  wide = K.wide ∙ W.wide;
   small = λ p. K.kind.small p (W.small p);
-  feasible = rw (a, b) (still K W.feasible);
+  feasible = still K W.feasible;
 }

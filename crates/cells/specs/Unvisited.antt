@@ -44,7 +44,7 @@ pub record IsShape (t : Marking) (o : Unvisited) : Type 0 where
   pub wide : length t.wants.now ≡ length o.columns.now
 
 abbrev pub IsWanted : Marking → Unvisited → Type 0
-IsWanted t o = Wanted t.marks.now t.lacks.now t.wants.now (opened o.rows.now) (opened o.columns.now)
+IsWanted t o = Wanted (length o.rows.now) (length o.columns.now) t.marks.now t.lacks.now t.wants.now
 
 -- a column that row i can take at once, if there is one
 abbrev pub FreeIn : Marking → Unvisited → ℕ → Option ℕ → Type 0
