@@ -17,13 +17,16 @@ impl Marking<'_> {
         requires { IsShape self.now unvisited.now × (i < length unvisited.now.rows.now) }
         ensures { FreeIn self.now unvisited.now i result }
     {
-        let n = unvisited.columns.len();
+        let marks = &*self.marks;
+        let wants = &*self.wants;
+        let columns = &*unvisited.columns;
+        let n = columns.len();
         let mut best = None;
         let mut most = 0;
         for j in 0..n {
-            if self.wants[j] > most && self.marks[i * n + j] == BROKEN && unvisited.columns[j] {
+            if wants[j] > most && marks[i * n + j] == BROKEN && columns[j] {
                 best = Some(j);
-                most = self.wants[j];
+                most = wants[j];
             }
         }
         best
