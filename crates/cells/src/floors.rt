@@ -1,6 +1,6 @@
 // The floors of the table, which of its cells are broken, and the marks that each row lacks and each column wants. Remainders are added
 // up as whole multiples of w and what is left below w, so that no sum passes a word.
-ghost use Rattle.std.specs.Prelude.{◌≡◌, ◌+◌, ◌*◌, ◌<◌, ◌≤◌, min, length};
+ghost use Rattle.std.specs.Prelude.{◌≡◌, ◌+◌, ◌-◌, ◌*◌, ◌<◌, ◌≤◌, min, length};
 ghost use Rattle.cells.specs.Naturals.{Unsigned, Naturals};
 ghost use Rattle.cells.specs.Rows.{Carried, RowAsks};
 ghost use Rattle.cells.specs.Floors.{Given};
@@ -29,13 +29,17 @@ fn mark(rest: u64) -> u64
     if rest == 0 { WHOLE } else { BROKEN }
 }
 
-// How often s has w in it: not at all, or once.
-fn carry(s: u64, w: u64) -> u64
-    requires { s < w + w }
-    ensures { Carried s w result }
+// Adds a remainder to what is left below w; how often w is whole in the sum, not at all or once, is taken out of it and returned.
+fn add(left: &mut u64, rest: u64, w: u64) -> u64
+    requires { (left.old + rest < w + w) × (w ≤ 100000000000000000) }
+    ensures { Carried (left.old + rest) w result × (left.new ≡ left.old + rest - result * w) }
 {
-    // no `u64::from(s >= w)`, with which the floors take up to 5 % longer
-    if s < w { 0 } else { 1 }
+    *left += rest;
+    if *left < w {
+        return 0;
+    }
+    *left -= w;
+    1
 }
 
 impl Marking<'_> {
@@ -63,14 +67,8 @@ impl Marking<'_> {
             let f = share::signed(v, x, w, p);
             cells[base + j] = f.quot;
             self.marks[base + j] = mark(f.rem);
-            let s = lefts[j] + f.rem;
-            let c = carry(s, w);
-            lefts[j] = s - c * w;
-            self.wants[j] += c;
-            let t = left + f.rem;
-            let d = carry(t, w);
-            left = t - d * w;
-            lacks += d;
+            self.wants[j] += add(&mut lefts[j], f.rem, w);
+            lacks += add(&mut left, f.rem, w);
         }
         self.lacks[i] = lacks;
     }

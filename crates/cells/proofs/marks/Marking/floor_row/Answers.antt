@@ -15,9 +15,11 @@ loop-j-preserved c =
     let I = c.loop-j.invariant in
     let a : RowAsks (back s.v) s.debits.now s.w s.cells.now t.marks.now t.wants.now s.lefts.now (s.i * length s.debits.now) = rw (to_z-of_z c.ranges.v) c.requires.1 in
     let g : SFits w64 f.result.quot = search rules in
-    rw (to_z-of_z g)
+    let column = c.add.ensures in
+    let row = c.add-lacks.ensures in
+    rw (to_z-of_z g, column.1, row.1)
     (row_more a I.0 c.loop-j-test.true f.result.quot f.result.rem (quot_is f.ensures) (rest_is f.ensures) c.mark.result
-        c.mark.ensures c.carry-c.result c.carry-c.ensures c.carry-d.result c.carry-d.ensures, I.1)
+        c.mark.ensures c.add.result column.0 c.add-lacks.result row.0, I.1)
 
 pub returns : goal.returns
 returns c =
