@@ -1,12 +1,11 @@
 -- What the search has open, as the code holds it, and what its calls do to the structs: the laws of `Visit` and `Place` at their slices.
 -- In those laws a list of numbers says what is open, above 0 while it is.
-use Rattle.std.specs.Prelude.{◌≡◌, ℕ, ◌*◌, ◌<◌, Bool, true, false, cond, Option, Some, None, unwrap_or, List, length, map, slice_index, slice_index_or, slice_set}
+use Rattle.std.specs.Prelude.{◌≡◌, ℕ, ◌*◌, ◌<◌, Bool, true, false, cond, Option, List, length, map, slice_index, slice_index_or, slice_set}
 use Rattle.std.specs.Prelude.{replicate, refl}
 use Rattle.std.proofs.Common.{sym, ap, ap₂, ◌∙◌, arith}
 use Rattle.std.proofs.lemmas.List.{map-set, length-map, length-replicate, get_or-map, get_or-replicate}
 use Rattle.cells.specs.declared.marks.Marking.{Marking}
 use Rattle.cells.specs.declared.search.Unvisited.{Unvisited}
-use Rattle.cells.specs.Marks.{at}
 use Rattle.cells.specs.Visit.{Free, RowVisited, ColVisited}
 use Rattle.cells.specs.Place.{Wanted, RowPlaced, Placed}
 

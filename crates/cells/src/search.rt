@@ -47,7 +47,10 @@ impl Marking<'_> {
             return true;
         }
         for j in 0..n {
-            if unvisited.columns[j] && self.marks[i * n + j] == BROKEN && self.visit_column(unvisited, j) {
+            if unvisited.columns[j]
+                && self.marks[i * n + j] == BROKEN
+                && self.visit_column(unvisited, j)
+            {
                 self.marks[i * n + j] = MARKED;
                 return true;
             }
@@ -65,7 +68,10 @@ impl Marking<'_> {
         let n = unvisited.columns.len();
         unvisited.columns[j] = false;
         for i in 0..unvisited.rows.len() {
-            if unvisited.rows[i] && self.marks[i * n + j] == MARKED && self.visit_row(unvisited, i) {
+            if unvisited.rows[i]
+                && self.marks[i * n + j] == MARKED
+                && self.visit_row(unvisited, i)
+            {
                 self.marks[i * n + j] = BROKEN;
                 return true;
             }

@@ -3,7 +3,7 @@ use Rattle.std.proofs.Common.{◌+◌, ◌-◌, ◌*◌, ◌<◌, false, length,
 use Rattle.cells.specs.Marks.{below}
 use Rattle.cells.specs.Turns.{row_now, row_start, row_skip, row_miss, row_wants, row_less, row_hit, row_last}
 use Rattle.cells.specs.Turns.{col_start, col_skip, col_miss, col_less, col_hit, col_last}
-use Rattle.cells.specs.Unvisited.{opened, length-opened, opened-set, opened_on, opened_off, Still, still_shape, still_then}
+use Rattle.cells.specs.Unvisited.{opened, length-opened, opened-set, opened_on, opened_off, still_shape, still_then}
 use Rattle.cells.proofs.marks.Marking.+visit.Goals as goal
 use Rattle.cells.proofs.marks.Marking.+visit.Goals.{visit_column-else-unvisited-i-via-then-unvisited-i+then-self-i-eq-MARKED+else-visit_row}
 use Rattle.cells.proofs.marks.Marking.+visit.Goals.{visit_column-else-unvisited-i-via-then-unvisited-i+else-self-i-eq-MARKED}
@@ -19,8 +19,8 @@ visit_column-loop-i-init t c =
     let o = c.args.unvisited.now in (
       record { lacks = refl; cells = refl; wide = refl; rows = refl; columns = length-set o.columns.now c.args.j false },
       rw (opened-set o.columns.now c.args.j)
-      (col_start s.marks.now s.wants.now (opened o.rows.now) (slice_set (opened o.columns.now) c.args.j 0) c.args.j (length-opened o.rows.now)
-      (length-set (opened o.columns.now) c.args.j 0 ∙ length-opened o.columns.now)),
+          (col_start s.marks.now s.wants.now (opened o.rows.now) (slice_set (opened o.columns.now) c.args.j 0) c.args.j (length-opened o.rows.now)
+          (length-set (opened o.columns.now) c.args.j 0 ∙ length-opened o.columns.now)),
     )
 
 pub visit_column-visit_row-requires : goal.visit_column-visit_row-requires
@@ -43,13 +43,13 @@ visit_column-returns-then-visit_row t c =
     let at = l.i * length o.columns.now + j in (
       record { lacks = k.lacks; cells = length-set v.new.self.marks.now at 1 ∙ k.cells; wide = k.wide; rows = k.rows; columns = k.columns },
       col_hit (opened o.columns.now) j (length-opened o.columns.now) c.requires.1 (opened_on o.columns.now j c.requires.1 c.requires.2) l.i I.1
-      v.result
-      c.loop-i-test.true
-      (omega (arith, below c.loop-i-test.true c.requires.1, c.requires.0.cells, k.cells))
-      c.if-self-i-eq-MARKED.true
-      (opened_on l.unvisited.rows.now l.i (omega (arith, c.loop-i-test.true, I.0.rows)) c.if-unvisited-i.true)
-      (rw (I.0.rows, I.0.columns) at v.ensures.1)
-      c.if-visit_row.true,
+          v.result
+          c.loop-i-test.true
+          (omega (arith, below c.loop-i-test.true c.requires.1, c.requires.0.cells, k.cells))
+          c.if-self-i-eq-MARKED.true
+          (opened_on l.unvisited.rows.now l.i (omega (arith, c.loop-i-test.true, I.0.rows)) c.if-unvisited-i.true)
+          (rw (I.0.rows, I.0.columns) at v.ensures.1)
+          c.if-visit_row.true,
     )
 
 pub visit_column-loop-i-preserved : goal.visit_column-loop-i-preserved
@@ -59,15 +59,17 @@ visit_column-loop-i-preserved t c =
     let I = l.invariant in
     let h = c.loop-i-test.true in
     elim c.else-unvisited-i.branch [
-      visit_column-else-unvisited-i-via-then-unvisited-i+then-self-i-eq-MARKED+else-visit_row w ↦
+      | visit_column-else-unvisited-i-via-then-unvisited-i+then-self-i-eq-MARKED+else-visit_row w ↦
           let v = w.visit_row in
           let k = still_then I.0 v.ensures.0 in
-          rw (w.self-is, w.unvisited-is)
-          (k, col_miss j l.i I.1 h v.result (rw (I.0.rows, I.0.columns) at v.ensures.1) w.if-visit_row.false (length-opened _ ∙ k.rows) (length-opened _
-              ∙ k.columns))
-    | visit_column-else-unvisited-i-via-then-unvisited-i+else-self-i-eq-MARKED w ↦
+          rw (w.self-is, w.unvisited-is) (
+            k,
+            col_miss j l.i I.1 h v.result (rw (I.0.rows, I.0.columns) at v.ensures.1) w.if-visit_row.false (length-opened _ ∙ k.rows) (length-opened _
+                ∙ k.columns),
+          )
+      | visit_column-else-unvisited-i-via-then-unvisited-i+else-self-i-eq-MARKED w ↦
           rw (w.self-is, w.unvisited-is) (I.0, col_skip j l.i I.1 h (λ e. absurd (w.if-self-i-eq-MARKED.false e)))
-    | visit_column-else-unvisited-i-via-else-unvisited-i w ↦
+      | visit_column-else-unvisited-i-via-else-unvisited-i w ↦
           rw (w.self-is, w.unvisited-is)
           (I.0, col_skip j l.i I.1 h (λ e. opened_off l.unvisited.rows.now l.i (omega (arith, h, I.0.rows)) w.if-unvisited-i.false))
     ]
@@ -97,7 +99,7 @@ visit_row-returns-in-Some t c =
         columns = refl;
       },
       row_now i j S.cells S.wide c.requires.1 (opened_on o.rows.now i c.requires.1 c.requires.2) c.in-Some.ensures
-      (opened (slice_set o.rows.now i false)),
+          (opened (slice_set o.rows.now i false)),
     )
 
 pub visit_row-loop-j-init : goal.visit_row-loop-j-init
@@ -106,8 +108,8 @@ visit_row-loop-j-init t c =
     let o = c.args.unvisited.now in (
       record { lacks = refl; cells = refl; wide = refl; rows = length-set o.rows.now c.args.i false; columns = refl },
       rw (opened-set o.rows.now c.args.i)
-      (row_start s.marks.now s.wants.now (slice_set (opened o.rows.now) c.args.i 0) (opened o.columns.now) c.args.i
-      (length-set (opened o.rows.now) c.args.i 0 ∙ length-opened o.rows.now) (length-opened o.columns.now)),
+          (row_start s.marks.now s.wants.now (slice_set (opened o.rows.now) c.args.i 0) (opened o.columns.now) c.args.i
+          (length-set (opened o.rows.now) c.args.i 0 ∙ length-opened o.rows.now) (length-opened o.columns.now)),
     )
 
 pub visit_row-visit_column-requires : goal.visit_row-visit_column-requires
@@ -138,12 +140,12 @@ visit_row-returns-then-visit_column t c =
     let at = i * length o.columns.now + l.j in (
       record { lacks = k.lacks; cells = length-set v.new.self.marks.now at 2 ∙ k.cells; wide = k.wide; rows = k.rows; columns = k.columns },
       row_hit (opened o.rows.now) i (length-opened o.rows.now) c.requires.1 (opened_on o.rows.now i c.requires.1 c.requires.2) l.j I.1 v.result
-      c.loop-j-test.true
-      (omega (arith, below c.requires.1 c.loop-j-test.true, c.requires.0.cells, k.cells))
-      c.if-self-i-eq-BROKEN.true
-      (opened_on l.unvisited.columns.now l.j (omega (arith, c.loop-j-test.true, I.0.columns)) c.if-unvisited-j.true)
-      (rw (I.0.rows, I.0.columns) at v.ensures.1)
-      c.if-visit_column.true,
+          c.loop-j-test.true
+          (omega (arith, below c.requires.1 c.loop-j-test.true, c.requires.0.cells, k.cells))
+          c.if-self-i-eq-BROKEN.true
+          (opened_on l.unvisited.columns.now l.j (omega (arith, c.loop-j-test.true, I.0.columns)) c.if-unvisited-j.true)
+          (rw (I.0.rows, I.0.columns) at v.ensures.1)
+          c.if-visit_column.true,
     )
 
 pub visit_row-loop-j-preserved : goal.visit_row-loop-j-preserved
@@ -153,15 +155,17 @@ visit_row-loop-j-preserved t c =
     let I = l.invariant in
     let h = c.loop-j-test.true in
     elim c.else-unvisited-j.branch [
-      visit_row-else-unvisited-j-via-then-unvisited-j+then-self-i-eq-BROKEN+else-visit_column w ↦
+      | visit_row-else-unvisited-j-via-then-unvisited-j+then-self-i-eq-BROKEN+else-visit_column w ↦
           let v = w.visit_column in
           let k = still_then I.0 v.ensures.0 in
-          rw (w.self-is, w.unvisited-is)
-          (k, row_miss i l.j I.1 h v.result (rw (I.0.rows, I.0.columns) at v.ensures.1) w.if-visit_column.false (length-opened _ ∙ k.rows) (length-opened _
-              ∙ k.columns))
-    | visit_row-else-unvisited-j-via-then-unvisited-j+else-self-i-eq-BROKEN w ↦
+          rw (w.self-is, w.unvisited-is) (
+            k,
+            row_miss i l.j I.1 h v.result (rw (I.0.rows, I.0.columns) at v.ensures.1) w.if-visit_column.false (length-opened _ ∙ k.rows) (length-opened _
+                ∙ k.columns),
+          )
+      | visit_row-else-unvisited-j-via-then-unvisited-j+else-self-i-eq-BROKEN w ↦
           rw (w.self-is, w.unvisited-is) (I.0, row_skip i l.j I.1 h (λ e. absurd (w.if-self-i-eq-BROKEN.false e)))
-    | visit_row-else-unvisited-j-via-else-unvisited-j w ↦
+      | visit_row-else-unvisited-j-via-else-unvisited-j w ↦
           rw (w.self-is, w.unvisited-is)
           (I.0, row_skip i l.j I.1 h (λ e. opened_off l.unvisited.columns.now l.j (omega (arith, h, I.0.columns)) w.if-unvisited-j.false))
     ]

@@ -17,9 +17,11 @@ loop-j-preserved c =
     let g : SFits w64 f.result.quot = search rules in
     let column = c.add.ensures in
     let row = c.add-lacks.ensures in
-    rw (to_z-of_z g, column.1, row.1)
-    (row_more a I.0 c.loop-j-test.true f.result.quot f.result.rem (quot_is f.ensures) (rest_is f.ensures) c.mark.result
-        c.mark.ensures c.add.result column.0 c.add-lacks.result row.0, I.1)
+    rw (to_z-of_z g, column.1, row.1) (
+      row_more a I.0 c.loop-j-test.true f.result.quot f.result.rem (quot_is f.ensures) (rest_is f.ensures) c.mark.result
+          c.mark.ensures c.add.result column.0 c.add-lacks.result row.0,
+      I.1,
+    )
 
 pub returns : goal.returns
 returns c =

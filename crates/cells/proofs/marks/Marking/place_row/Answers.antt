@@ -17,7 +17,7 @@ loop-self-preserved c =
       k.rows ∙ c.fill.auto.self ∙ I.0,
       k.columns ∙ c.fill-in-loop-self.auto.self ∙ I.1,
       rw k.lacks
-      (placing_on I.2
+          (placing_on I.2
           (kept_more K W.feasible W.small c.requires.1 (omega (arith, c.requires.1, W.tall, K.tall)) c.loop-self-test.true
           (opened_all _ _ (rw I.0 at rows)) (opened_all _ _ (rw I.1 at columns)) v.result
           (rw (c.fill.auto.self ∙ I.0, c.fill-in-loop-self.auto.self ∙ I.1) at v.ensures.1)
