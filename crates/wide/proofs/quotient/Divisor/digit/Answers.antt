@@ -1,11 +1,11 @@
 -- With v = v1·2^29 + v0 and h = q·v1 + t, the dividend and p = q·v0 make q·v and m = t·2^29 + d: so q is the quotient, or one more where
 -- p passes m, which it does by less than v.
-use Rattle.std.proofs.Common.{◌≡◌, ℕ, ◌+◌, ◌-◌, ◌*◌, ◌/◌, ◌%◌, ◌^◌, ◌<◌, ◌≤◌, ap, lt_of_le_of_lt, mul-le-mul_right, mod-lt, mul-le-mul, div-add-mod', sub-le, arith}
+use Rattle.std.proofs.Common.{◌≡◌, ℕ, ◌+◌, ◌-◌, ◌*◌, ◌/◌, ◌%◌, ◌^◌, ◌<◌, ◌≤◌, ap, lt_of_le_of_lt, mul-le-mul_right, mod-lt, mul-le-mul, div-add-mod', sub-le, arith, w64, Fits, rules}
 use native.Mathlib.Decide.{dec_le}
 use lib.Bits.{bit_and, and_mask}
+use Rattle.wide.specs.declared.quotient.Divisor.{Divisor}
 use Rattle.wide.proofs.Laws.{divided_is}
-use Rattle.wide.proofs.quotient.digit.Goals as goal
-use Rattle.wide.proofs.quotient.digit.Goals.{Start}
+use Rattle.wide.proofs.quotient.Divisor.digit.Goals as goal
 
 -- a step's numbers: v in its upper and lower bits, h by the upper
 record Step (h d v v1 v0 q t : ℕ) : Type 0 where
@@ -62,53 +62,42 @@ below : (v p m : ℕ) → m < p → p - m ≤ v → v - (p - m) < v
 below v p m l k = omega arith
 
 -- at a place of the code
-step : (c : Start) → Step c.args.h c.args.d c.args.v (c.args.v / 2 ^ 29) (bit_and c.args.v 536870911) (c.args.h / (c.args.v / 2 ^ 29))
-    (c.args.h % (c.args.v / 2 ^ 29))
-step c =
-    let a = c.args in
-    let k : 0 < a.v / 2 ^ 29 = omega arith in
-    let m = and_mask a.v 29 in
+step : (k : Divisor) (h d : ℕ) → Fits w64 k.v → (h < k.v) × (d < 2 ^ 29)
+    → Step h d k.v (k.v / 2 ^ 29) (bit_and k.v 536870911) (h / (k.v / 2 ^ 29)) (h % (k.v / 2 ^ 29))
+step k h d f r =
+    let t = k.top in
+    let z : 0 < k.v / 2 ^ 29 = omega arith in
+    let m = and_mask k.v 29 in
     record {
       v_is = omega (arith, m);
       v0_lt = omega (arith, m);
-      v_lt = c.ranges.v.fits;
-      top = omega (arith, c.requires.0);
-      h_is = div-add-mod' a.h (a.v / 2 ^ 29);
-      t_lt = mod-lt a.h k;
-      h_lt = c.requires.1;
-      d_lt = c.requires.2;
+      v_lt = f.fits;
+      top = t;
+      h_is = div-add-mod' h (k.v / 2 ^ 29);
+      t_lt = mod-lt h z;
+      h_lt = r.0;
+      d_lt = r.1;
     }
-
-pub overflow_mul-m : goal.overflow_mul-m
-overflow_mul-m c = omega (arith, left_lt (step c), c.ranges.v)
-
-pub overflow_add-m : goal.overflow_add-m
-overflow_add-m c = omega (arith, left_lt (step c), c.ranges.v)
-
-pub overflow_mul-p : goal.overflow_mul-p
-overflow_mul-p c = omega (arith, p_lt (step c))
 
 pub returns-then-p-m : goal.returns-then-p-m
 returns-then-p-m c =
     let a = c.args in
-    let s = step c.before in
-    divided_is (a.h / (a.v / 2 ^ 29)) a.v _ (a.h * 2 ^ 29 + a.d) (exact s c.if-p-m.true) (lt_of_le_of_lt (sub-le _ _) (left_lt s))
+    let v = a.self.v in
+    let f : Fits w64 a.self.v = search rules in
+    let s = step a.self a.h a.d f c.requires in
+    divided_is (a.h / (v / 2 ^ 29)) v _ (a.h * 2 ^ 29 + a.d) (exact s c.if-p-m.true) (lt_of_le_of_lt (sub-le _ _) (left_lt s))
 
-pub overflow_sub-result-2 : goal.overflow_sub-result-2
-overflow_sub-result-2 c = not_none _ (bit_and c.args.v 536870911) _ c.if-p-m.false
-
-pub overflow_sub-result-4 : goal.overflow_sub-result-4
-overflow_sub-result-4 c = passes _ _ _ (p_lt (step c.before)) c.requires.0
-
-pub returns : goal.returns
-returns c =
+pub returns-else-p-m : goal.returns-else-p-m
+returns-else-p-m c =
     let a = c.args in
-    let s = step c.before in
-    let q = a.h / (a.v / 2 ^ 29) in
-    let m = a.h % (a.v / 2 ^ 29) * 2 ^ 29 + a.d in
-    let p = q * bit_and a.v 536870911 in
+    let v = a.self.v in
+    let f : Fits w64 a.self.v = search rules in
+    let s = step a.self a.h a.d f c.requires in
+    let q = a.h / (v / 2 ^ 29) in
+    let m = a.h % (v / 2 ^ 29) * 2 ^ 29 + a.d in
+    let p = q * bit_and v 536870911 in
     let l : m < p = c.if-p-m.false in
-    let k : p - m ≤ a.v = passes p m a.v (p_lt s) c.requires.0 in
-    divided_is (q - 1) a.v (a.v - (p - m)) (a.h * 2 ^ 29 + a.d)
-    (less_one (a.h * 2 ^ 29 + a.d) a.v q p m (balance s) l k (not_none q (bit_and a.v 536870911) m l))
-    (below a.v p m l k)
+    let k : p - m ≤ v = passes p m v (p_lt s) a.self.top in
+    divided_is (q - 1) v (v - (p - m)) (a.h * 2 ^ 29 + a.d)
+    (less_one (a.h * 2 ^ 29 + a.d) v q p m (balance s) l k (not_none q (bit_and v 536870911) m l))
+    (below v p m l k)
