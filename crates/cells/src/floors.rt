@@ -7,6 +7,7 @@ ghost use Rattle.cells.specs.Floors.{Given};
 ghost use Rattle.cells.specs.Marking.{FloorsRow, HasRoom, Floors};
 
 use super::marks::{BROKEN, Marking, WHOLE};
+use share::weights::Rate;
 
 // The debits as unsigned numbers; their sum.
 pub(crate) fn naturals(vd: &[i64], debits: &mut [u64]) -> u64
@@ -59,16 +60,15 @@ impl Marking<'_> {
         ensures { FloorsRow self.old i v debits.now w cells.old lefts.old self.new cells.new lefts.new }
     {
         let base = i * debits.len();
-        let k = share::weights::rate_of(share::size(v), w);
+        let rate = Rate::of(v, w);
         let mut lacks = 0;
         let mut left = 0;
         for (j, &x) in debits.iter().enumerate() {
-            let p = share::weights::at_rate(k, x, w);
-            let f = share::signed(v, x, w, p);
-            cells[base + j] = f.quot;
-            self.marks[base + j] = mark(f.rem);
-            self.wants[j] += add(&mut lefts[j], f.rem, w);
-            lacks += add(&mut left, f.rem, w);
+            let cell = rate.at(x);
+            cells[base + j] = cell.quot;
+            self.marks[base + j] = mark(cell.rem);
+            self.wants[j] += add(&mut lefts[j], cell.rem, w);
+            lacks += add(&mut left, cell.rem, w);
         }
         self.lacks[i] = lacks;
     }
