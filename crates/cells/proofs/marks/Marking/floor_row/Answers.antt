@@ -23,9 +23,3 @@ loop-j-preserved c =
           c.mark.ensures c.add.result column.0 c.add-lacks.result row.0,
       I.1,
     )
-
-pub returns : goal.returns
-returns c =
-    let I = c.loop-j.invariant in
-    let e : c.loop-j.j ≡ length c.args.debits.now = omega (arith, I.0.row.here) in
-    record { lack = c.loop-j.lacks; lacks = rw I.1; row = rw (to_z-of_z c.ranges.v, e) at I.0.row }

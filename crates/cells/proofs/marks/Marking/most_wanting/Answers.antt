@@ -22,6 +22,3 @@ loop-j-preserved c =
             | else-wants-j-via-else-wants-j v ↦ omega (arith, v.if-wants-j.false)
           ]))
     ]
-
-pub returns : goal.returns
-returns c = free_end _ c.loop-j.invariant c.loop-j-test.false
