@@ -40,15 +40,15 @@ module _ {users : List User} {s : Sums} {pv : ℤ} {held : List ℤ} {st : State
   first_bills b = record { debits = first_debits m b; credits = first_credits m b; total = refl }
 
   -- columns of these amounts
-  module _ {c : Columns} (uses : c.uses.now ≡ first_uses users s) (overruns : c.overruns.now ≡ first_overruns users s)
+  module _ (c : Columns) (uses : c.uses.now ≡ first_uses users s) (overruns : c.overruns.now ≡ first_overruns users s)
       (vme : c.vme.now ≡ VMEs l) (cpv : c.cpv.now ≡ CPVs l) (same : c.held.now ≡ held)
       (a : Amounts st l c.debits.now c.credits.now (sum_ℤ (VDs st l))) where
     pub columns : {out : List UserRow} → length out ≡ length users → ColumnsFit users c out
     columns e =
         let u = sym (user_count m) in
         record {
-          use_count = ap length uses ∙ use_count m ∙ u;
-          overrun_count = ap length overruns ∙ overrun_count m ∙ u;
+          use_count = ap length uses ∙ use_count m;
+          overrun_count = ap length overruns ∙ overrun_count m;
           vme_count = ap length vme ∙ length_VMEs l ∙ u;
           debit_count = ap length a.debits ∙ length_VDs st l m.tested.held ∙ u;
           credit_count = ap length a.credits ∙ length_new_credits st l m.tested.held ∙ u;

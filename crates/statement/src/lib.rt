@@ -63,6 +63,7 @@ pub struct RowRooms {
 }
 
 // 2: the first slice that is too short; month and credits play no part.
+#[tactic(auto, unfolding(crate::specs::Statement::short_rooms))]
 fn short_rooms(ledger: Ledger, points: u64, rooms: RowRooms) -> Result<(), Refusal>
     ensures { (credits : List ℤ) → verdict_of result ≡ short_rooms (state_of ledger credits) rooms points }
 {
@@ -82,6 +83,7 @@ fn short_rooms(ledger: Ledger, points: u64, rooms: RowRooms) -> Result<(), Refus
 }
 
 // 1 and 2, of the counts of its lines and the lengths of its slices; the held credits play no part.
+#[tactic(auto, unfolding(rules::specs::Refusals::count_tests))]
 fn stating_verdict(ledger: Ledger, month: MonthLines, rooms: RowRooms) -> Result<(), Refusal>
     ensures { (credits : List ℤ) → let l = lines_of month.entry in verdict_of result
         ≡ count_tests (state_of ledger credits) (short_rooms (state_of ledger credits) rooms (length l.points))
