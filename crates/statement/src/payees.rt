@@ -41,15 +41,17 @@ pub(crate) fn state_payees(payees: &Payees, direct: i64, out: &mut [PayeeRow]) -
 {
     let n = payees.agents.len();
     let mut pb = [0; 256];
-    let mut vmant = [0; 256];
-    let mut vc = [0; 256];
-    let balance = payees.agent_credits(&mut pb[..n], &mut vmant[..n], &mut vc[..n]);
+    let mut all_vmant = [0; 256];
+    let mut all_vc = [0; 256];
+    let vmant = &mut all_vmant[..n];
+    let vc = &mut all_vc[..n];
+    let balance = payees.agent_credits(&mut pb[..n], vmant, vc);
     rows(
         payees.last,
         payees.line.month,
         payees.agents,
-        &vmant[..n],
-        &vc[..n],
+        vmant,
+        vc,
         &mut out[..n],
     );
     out[n] = PayeeRow {

@@ -45,6 +45,7 @@ fn rows(users: &[User], columns: Columns, out: &mut [UserRow])
 }
 
 // Writes the rows of a month that breaks no limit: `judged` is what was found of it, pv the sum of all pv.
+#[tactic(auto, using(charges::proofs::Amounts::few))]
 pub(crate) fn state_users(
     users: &[User],
     judged: &Judged,
@@ -62,15 +63,17 @@ pub(crate) fn state_users(
     let n = users.len();
     let uses = &judged.sums.uses[..n];
     let overruns = &judged.sums.overruns[..n];
-    let mut vme = [0; 512];
-    let mut cpv = [0; 512];
-    charges::month::charge(users, uses, overruns, &mut vme[..n]);
-    charges::month::compensate(pv, uses, &mut cpv[..n]);
+    let mut all_vme = [0; 512];
+    let mut all_cpv = [0; 512];
+    let vme = &mut all_vme[..n];
+    let cpv = &mut all_cpv[..n];
+    charges::month::charge(users, uses, overruns, vme);
+    charges::month::compensate(pv, uses, cpv);
     let columns = Columns {
         uses,
         overruns,
-        vme: &vme[..n],
-        cpv: &cpv[..n],
+        vme,
+        cpv,
         held,
         debits: &judged.bills.debits[..n],
         credits: &judged.bills.credits[..n],
