@@ -18,15 +18,14 @@ impl Marking<'_> {
         ensures { FreeIn self.now unvisited.now i result }
     {
         let marks = &*self.marks;
-        let wants = &*self.wants;
         let columns = &*unvisited.columns;
         let n = columns.len();
         let mut best = None;
         let mut most = 0;
-        for j in 0..n {
-            if wants[j] > most && marks[i * n + j] == BROKEN && columns[j] {
+        for (j, &want) in self.wants.iter().enumerate() {
+            if want > most && marks[i * n + j] == BROKEN && columns[j] {
                 best = Some(j);
-                most = wants[j];
+                most = want;
             }
         }
         best

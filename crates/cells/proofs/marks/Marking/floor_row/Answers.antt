@@ -19,7 +19,7 @@ loop-j-preserved c =
     let column = c.add.ensures in
     let row = c.add-lacks.ensures in
     rw (to_z-of_z g, column.1, row.1) (
-      row_more a I.0 c.loop-j-test.true f.result.quot f.result.rem (quot_is split) (rest_is split) c.mark.result
-          c.mark.ensures c.add.result column.0 c.add-lacks.result row.0,
+      row_more a I.0 c.loop-j-test.true f.result.quot f.result.rem (quot_is split) (rest_is split) c.state.result
+          c.state.ensures c.add.result column.0 c.add-lacks.result row.0,
       I.1,
     )
