@@ -17,6 +17,7 @@ use search::Unvisited;
 
 // The most payees and users of a table.
 const PAYEES: usize = 257;
+
 const USERS: usize = 512;
 
 // The cent that a cell's mark adds to its floor.

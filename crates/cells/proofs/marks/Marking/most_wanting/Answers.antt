@@ -1,5 +1,5 @@
 use Rattle.std.proofs.Common.{◌<◌, length, arith}
-use Rattle.cells.specs.Visit.{free_pass, free_better, free_end}
+use Rattle.cells.specs.Visit.{free_pass, free_better}
 use Rattle.cells.specs.Unvisited.{opened_on, opened_off}
 use Rattle.cells.proofs.marks.Marking.most_wanting.Goals as goal
 use Rattle.cells.proofs.marks.Marking.most_wanting.Goals.{then-want-most+then-self-i-eq-BROKEN+then-unvisited-j, else-want-most}
