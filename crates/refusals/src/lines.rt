@@ -2,10 +2,11 @@
 ghost use Rattle.std.specs.Prelude.{◌≡◌, ℕ, pos};
 ghost use Rattle.ints.specs.Range.{outside, eq_z};
 ghost use Rattle.rules.specs.Verdict.{Verdict, each_line};
-ghost use Rattle.rules.specs.Lines.{bad_amount, bad_correction, bad_amounts, bad_agent, bad_user};
+ghost use Rattle.rules.specs.Lines.{bad_amounts, bad_agent, bad_user};
 ghost use Rattle.rules.specs.Refusals.{credit_test, agent_test, user_test, lines_before_points};
 ghost use Rattle.rules.specs.Answers.{verdict_of};
 
+use ints::outside;
 use rules::{Agent, Kind, MonthLine, Refusal, User};
 
 // 10^11, the limit of amounts, and either way of corrections.
@@ -13,20 +14,6 @@ const AMOUNT: i64 = 100_000_000_000;
 
 // 10^17, the limit of held credits.
 const CREDIT: i64 = 100_000_000_000_000_000;
-
-#[tactic(auto, unfolding(ints::specs::Range::outside))]
-fn bad_amount(x: i64) -> bool
-    ensures { result ≡ bad_amount x }
-{
-    !(0..=AMOUNT).contains(&x)
-}
-
-#[tactic(auto, unfolding(ints::specs::Range::outside))]
-fn bad_correction(x: i64) -> bool
-    ensures { result ≡ bad_correction x }
-{
-    !(-AMOUNT..=AMOUNT).contains(&x)
-}
 
 // Whether a line's number is its position; k may pass what an i64 holds.
 fn is_number(x: i64, k: u64) -> bool
@@ -39,7 +26,10 @@ fn is_number(x: i64, k: u64) -> bool
 fn bad_amounts(pb: i64, pv: i64, afs: i64, rfs: i64) -> bool
     ensures { result ≡ bad_amounts pb pv afs rfs }
 {
-    bad_amount(pb) || bad_amount(pv) || bad_amount(afs) || bad_amount(rfs)
+    outside(0, AMOUNT, pb)
+        || outside(0, AMOUNT, pv)
+        || outside(0, AMOUNT, afs)
+        || outside(0, AMOUNT, rfs)
 }
 
 // 5 of the agent line at position k.
@@ -49,8 +39,8 @@ fn bad_agent(k: u64, agent: &Agent) -> bool
 {
     !is_number(agent.number, k)
         || bad_amounts(agent.pb, agent.pv, agent.afs, agent.rfs)
-        || bad_correction(agent.pa)
-        || bad_correction(agent.ret)
+        || outside(-AMOUNT, AMOUNT, agent.pa)
+        || outside(-AMOUNT, AMOUNT, agent.ret)
 }
 
 #[tactic(auto, unfolding(ints::specs::Range::outside))]
@@ -67,8 +57,8 @@ fn bad_user(k: u64, user: &User) -> bool
 {
     !is_number(user.number, k)
         || bad_kind(user.kind)
-        || bad_correction(user.ret)
-        || bad_amount(user.ong)
+        || outside(-AMOUNT, AMOUNT, user.ret)
+        || outside(0, AMOUNT, user.ong)
 }
 
 // Each line's test in turn, which is given the line's position from 1: the first that refuses.
@@ -84,11 +74,10 @@ fn each_line<T, F: Fn(u64, &T) -> Result<(), Refusal>>(lines: &[T], test: F) -> 
     Ok(())
 }
 
-#[tactic(auto, unfolding(ints::specs::Range::outside))]
 fn credit_verdict(k: u64, credit: &i64) -> Result<(), Refusal>
     ensures { verdict_of result ≡ credit_test k credit.now }
 {
-    if !(0..=CREDIT).contains(credit) {
+    if outside(0, CREDIT, *credit) {
         return Err(Refusal::BadCredit(k));
     }
     Ok(())
@@ -124,7 +113,7 @@ fn user_verdict(k: u64, user: &User) -> Result<(), Refusal>
 pub fn lines_before_points(line: MonthLine, agents: &[Agent], users: &[User]) -> Result<(), Refusal>
     ensures { verdict_of result ≡ lines_before_points line agents.now users.now }
 {
-    if bad_amount(line.ons) {
+    if outside(0, AMOUNT, line.ons) {
         return Err(Refusal::BadValue(0));
     }
     each_line(agents, agent_verdict)?;

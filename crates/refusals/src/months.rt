@@ -5,6 +5,7 @@ ghost use Rattle.rules.specs.Calendar.{impossible_month};
 ghost use Rattle.rules.specs.Refusals.{bad_month};
 ghost use Rattle.rules.specs.Answers.{verdict_of};
 
+use ints::outside;
 use rules::Refusal;
 
 // No month: outside 200001 to 209912, or mm outside 01 to 12. The range comes first: past it % is mm, as m is above 0.
@@ -12,7 +13,7 @@ use rules::Refusal;
 pub(crate) fn impossible_month(m: i64) -> bool
     ensures { result ≡ impossible_month m }
 {
-    !(200_001..=209_912).contains(&m) || !(1..=12).contains(&(m % 100))
+    outside(200_001, 209_912, m) || outside(1, 12, m % 100)
 }
 
 // 3: an impossible month, or one not later than the last closed.

@@ -1,39 +1,29 @@
 // Point lines: refusals 5, 6 and 7, in this order on each line.
 ghost use Rattle.std.specs.Prelude.{◌≡◌, true, false, MatchOption, ℤ, pos, length};
 ghost use Rattle.ints.specs.Range.{outside};
-ghost use Rattle.rules.specs.Lines.{kind_of, bad_tariff, bad_discount, bad_power, bad_band, bad_point, unfit_point};
+ghost use Rattle.rules.specs.Lines.{kind_of, bad_band, bad_point, unfit_point};
 ghost use Rattle.rules.specs.Kinds.{IsKind};
 ghost use Rattle.rules.specs.Refusals.{point_test};
 ghost use Rattle.rules.specs.Answers.{verdict_of};
 
+use ints::outside;
 use rules::{Kind, Point, Refusal, User};
 
-#[tactic(auto, unfolding(ints::specs::Range::outside))]
-fn bad_tariff(x: i64) -> bool
-    ensures { result ≡ bad_tariff x }
-{
-    !(0..=100_000).contains(&x)
-}
+// Of a tariff, of a discount in percent, of a power.
+const TARIFF: i64 = 100_000;
 
-#[tactic(auto, unfolding(ints::specs::Range::outside))]
-fn bad_discount(x: i64) -> bool
-    ensures { result ≡ bad_discount x }
-{
-    !(0..=100).contains(&x)
-}
+const DISCOUNT: i64 = 100;
 
-#[tactic(auto, unfolding(ints::specs::Range::outside))]
-fn bad_power(x: i64) -> bool
-    ensures { result ≡ bad_power x }
-{
-    !(0..=20_000_000).contains(&x)
-}
+const POWER: i64 = 20_000_000;
 
 // A band of a point.
 fn bad_band(tariff: i64, discount: i64, contracted: i64, verified: i64) -> bool
     ensures { result ≡ bad_band tariff discount contracted verified }
 {
-    bad_tariff(tariff) || bad_discount(discount) || bad_power(contracted) || bad_power(verified)
+    outside(0, TARIFF, tariff)
+        || outside(0, DISCOUNT, discount)
+        || outside(0, POWER, contracted)
+        || outside(0, POWER, verified)
 }
 
 // 5 of a point line.
