@@ -1,6 +1,6 @@
 -- DEMAND 2 of one statement, in words: of an accepted month every amount is the definition's, column by column of the rows that stand in
 -- front of each slice.
-use Rattle.std.specs.Prelude.{ℕ, ◌+◌, ◌≡◌, Ok, List, [], ◌∷◌, ◌++◌, map, ℤ, pos, length, take}
+use Rattle.std.specs.Prelude.{◌+◌, ◌≡◌, Ok, List, [], ◌∷◌, ◌++◌, map, ℤ, pos, length, take}
 use Rattle.rules.specs.declared.Agent.{Agent}
 use Rattle.rules.specs.declared.Point.{Point}
 use Rattle.rules.specs.Calendar.{cycle_month, settled_to}

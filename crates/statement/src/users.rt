@@ -63,6 +63,7 @@ pub(crate) fn state_users(
     let n = users.len();
     let uses = &judged.sums.uses[..n];
     let overruns = &judged.sums.overruns[..n];
+    // room for the most users: nothing is allocated
     let mut all_vme = [0; 512];
     let mut all_cpv = [0; 512];
     let vme = &mut all_vme[..n];

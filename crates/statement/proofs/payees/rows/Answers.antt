@@ -1,4 +1,4 @@
-use Rattle.std.proofs.Common.{◌≡◌, List, [], length, get_or, ℤ, pos, refl, sym, ◌∙◌, arith, rules, to_z-of_z, w64, SFits}
+use Rattle.std.proofs.Common.{◌≡◌, [], get_or, ℤ, pos, refl, sym, ◌∙◌, arith, rules, to_z-of_z, w64, SFits}
 use Rattle.ints.specs.Fill.{filling_more, filling_all}
 use Rattle.ints.specs.Words.{back}
 use Rattle.rules.specs.Calendar.{cycle_month, settled_to}

@@ -1,4 +1,4 @@
-use Rattle.std.proofs.Common.{◌≡◌, ℕ, ◌<◌, List, [], get_or, length, pos, sym, ◌∙◌, arith, rules, to_z-of_z, w64, SFits}
+use Rattle.std.proofs.Common.{◌≡◌, ℕ, ◌<◌, List, [], get_or, length, sym, ◌∙◌, arith, rules, to_z-of_z, w64, SFits}
 use Rattle.ints.specs.Bounds.{Word}
 use Rattle.ints.specs.Fill.{filling_more, filling_all}
 use Rattle.rules.specs.declared.User.{User}
