@@ -38,14 +38,14 @@ digits_read (suc k) n (b ∷ u) = by (is_digit b) (digits_read k (step n b) u)
     by true h = rw (one-add j) h
     by false h = refl
 
-pub all_read : (c d : Cursor) (ds : List ℕ) (n : ℕ)
+pub all_read : {c d : Cursor} {ds : List ℕ} {n : ℕ}
     → ds ≡ take (digits_here 18 (rest c)) (rest c) → Passed c d (digits_here 18 (rest c)) → n ≡ fold step 0 ds
     → GotAt (read_digits 18 0 (rest c)) n d
-all_read c d ds n e p h =
+all_read {c} e p h =
     let r = digits_read 18 0 (rest c) in
     record {
       got = h ∙ ap (fold step 0) e ∙ sym (ap (λ (g : Got ℕ). g.got) r);
-      left = moved c d _ p ∙ sym (ap (λ (g : Got ℕ). g.left) r);
+      left = moved p ∙ sym (ap (λ (g : Got ℕ). g.left) r);
     }
 
 -- one digit more
@@ -96,7 +96,7 @@ sign_read (b ∷ u) false h = rw (sym h)
 module _ (c e d : Cursor) (q : Bool) (n : ℕ) (h : q ≡ byte_here minus (rest c)) (p : Passed c e (cond q 1 0))
     (g : GotAt (read_digits 18 0 (rest e)) n d) (s : n < 1_000_000_000_000_000_000) where
   value : read_value (rest c) ≡ with_sign q (read_digits 18 0 (rest e))
-  value = sign_read (rest c) q h ∙ ap (λ (u : List ℕ). with_sign q (read_digits 18 0 u)) (sym (moved c e (cond q 1 0) p))
+  value = sign_read (rest c) q h ∙ ap (λ (u : List ℕ). with_sign q (read_digits 18 0 u)) (sym (moved p))
 
   plus : to_z w64 n ≡ pos n
   plus = rw (lt-ltb n 9_223_372_036_854_775_808 (omega arith))
@@ -124,7 +124,7 @@ module _ (c e d : Cursor) (q : Bool) (n : ℕ) (h : q ≡ byte_here minus (rest 
 
 -- past the end of a line
 pub end_passed : (c d e : Cursor) (q : Bool) → q ≡ byte_here cr (rest c) → Passed c d (cond q 1 0) → rest e ≡ drop 1 (rest d) → rest e ≡ past_end (rest c)
-end_passed c d e q h p s = s ∙ ap (drop 1) (moved c d _ p ∙ ap (λ (x : Bool). drop (cond x 1 0) (rest c)) h) ∙ by (rest c)
+end_passed c d e q h p s = s ∙ ap (drop 1) (moved p ∙ ap (λ (x : Bool). drop (cond x 1 0) (rest c)) h) ∙ by (rest c)
   where
     by : (u : List ℕ) → drop 1 (drop (cond (byte_here cr u) 1 0) u) ≡ past_end u
     by [] = refl

@@ -42,22 +42,22 @@ abbrev block : List String → ℕ → List ℕ → Got (List (List ℤ))
 block k room s = read_lines room (length k) (past_end (drop (names k) s))
 
 -- what is left of one block is what the next is read from
-from_text : {A : Type 0} (entry : List ℤ → A) (k : List String) (room : ℕ) (c d : Cursor) (s : List ℕ) (xs xs' : List A) (n : ℕ)
+from_text : {A : Type 0} {entry : List ℤ → A} {xs xs' : List A} {n : ℕ} {d : Cursor} (k : List String) (room : ℕ) (c : Cursor) (s : List ℕ)
     → rest c ≡ s → Filled entry (block k room (rest c)) xs xs' n d → Filled entry (block k room s) xs xs' n d
-from_text entry k room c d s xs xs' n e f = subst (λ (u : List ℕ). Filled entry (block k room u) xs xs' n d) e f
+from_text {entry = entry} {xs} {xs'} {n} {d} k room c s e f = subst (λ (u : List ℕ). Filled entry (block k room u) xs xs' n d) e f
 
-laid_over : {A : Type 0} (entry : List ℤ → A) (g : Got (List (List ℤ))) (xs xs' : List A) (n : ℕ) (d : Cursor)
+laid_over : {A : Type 0} {entry : List ℤ → A} {g : Got (List (List ℤ))} {xs xs' : List A} {n : ℕ} {d : Cursor}
     → Filled entry g xs xs' n d → xs' ≡ over (map entry g.got) xs
-laid_over entry g xs xs' n d f =
+laid_over {entry = entry} {g} {xs} f =
     f.stored ∙ ap (λ (k : ℕ). map entry g.got ++ drop k xs) (f.count ∙ sym (length-map g.got entry))
 
 -- the month line, where one is read into a slice of one
 abbrev none : MonthLine
 none = month_line_of []
 
-first_line : (g : Got (List (List ℤ))) (ms : List MonthLine) (n : ℕ) (d : Cursor)
+first_line : {g : Got (List (List ℤ))} {ms : List MonthLine} {n : ℕ} {d : Cursor}
     → Filled month_line_of g (none ∷ []) ms n d → get_or ms 0 none ≡ month_line_of (get_or g.got 0 [])
-first_line g ms n d f = ap (λ (xs : List MonthLine). get_or xs 0 none) (laid_over month_line_of g (none ∷ []) ms n d f) ∙ by g.got
+first_line {g} f = ap (λ (xs : List MonthLine). get_or xs 0 none) (laid_over f) ∙ by g.got
   where
     by : (ls : List (List ℤ)) → get_or (over (map month_line_of ls) (none ∷ [])) 0 none ≡ month_line_of (get_or ls 0 [])
     by [] = refl
@@ -68,30 +68,30 @@ module _ (t : List ℕ) (from : ℕ) (agents : List Agent) (users : List User) (
   room = slices (length agents) (length users) (length points)
 
   -- judged, and read
-  module _ (ms : List MonthLine) (agents' : List Agent) (users' : List User) (points' : List Point)
-      (nm na nu np next : ℕ) (c m a u p : Cursor) where
-    pub whole :
-        rest c ≡ drop from t
-        → Filled month_line_of (block Table.month 1 (rest c)) (none ∷ []) ms nm m
-        → Filled agent_of (block Table.agents (length agents) (rest m)) agents agents' na a
-        → Filled user_of (block Table.users (length users) (rest a)) users users' nu u
-        → Filled point_of (block Table.points (length points) (rest u)) points points' np p
-        → scan_at room t from ≡ Ok next
-        → Reads t from agents users points agents' users' points'
-        (Ok (record { line = get_or ms 0 none; agents = na; users = nu; points = np; next = next }))
-    unfolding reading read_blocks
-    whole e month₀ agents₀ users₀ points₀ v =
-        let g = from_text month_line_of Table.month 1 c m (drop from t) (none ∷ []) ms nm e month₀ in
-        let h = from_text agent_of Table.agents (length agents) m a _ agents agents' na g.left agents₀ in
-        let i = from_text user_of Table.users (length users) a u _ users users' nu h.left users₀ in
-        let j = from_text point_of Table.points (length points) u p _ points points' np i.left points₀ in
-        rw v
-        (record {
-          answer = rw (first_line _ ms nm m g, h.count, i.count, j.count);
-          agents_are = laid_over agent_of _ agents agents' na a h;
-          users_are = laid_over user_of _ users users' nu u i;
-          points_are = laid_over point_of _ points points' np p j;
-        })
+  pub whole :
+      {ms : List MonthLine} {agents' : List Agent} {users' : List User} {points' : List Point} {nm na nu np : ℕ} {m a u p : Cursor}
+      (next : ℕ) (c : Cursor)
+      → rest c ≡ drop from t
+      → Filled month_line_of (block Table.month 1 (rest c)) (none ∷ []) ms nm m
+      → Filled agent_of (block Table.agents (length agents) (rest m)) agents agents' na a
+      → Filled user_of (block Table.users (length users) (rest a)) users users' nu u
+      → Filled point_of (block Table.points (length points) (rest u)) points points' np p
+      → scan_at room t from ≡ Ok next
+      → Reads t from agents users points agents' users' points'
+      (Ok (record { line = get_or ms 0 none; agents = na; users = nu; points = np; next = next }))
+  unfolding reading read_blocks
+  whole {m = m} {a} {u} next c e month₀ agents₀ users₀ points₀ v =
+      let g = from_text Table.month 1 c (drop from t) e month₀ in
+      let h = from_text Table.agents (length agents) m _ g.left agents₀ in
+      let i = from_text Table.users (length users) a _ h.left users₀ in
+      let j = from_text Table.points (length points) u _ i.left points₀ in
+      rw v
+      (record {
+        answer = rw (first_line g, h.count, i.count, j.count);
+        agents_are = laid_over h;
+        users_are = laid_over i;
+        points_are = laid_over j;
+      })
 
   -- refused: nothing is written
   pub refused : (x : Fault) (r : Refusal) → scan_at room t from ≡ Err x → ((f : File) → Answers (answer f (Err x)) (Err r))

@@ -11,8 +11,8 @@ use Rattle.format.specs.declared.Fault.{Fault}
 use Rattle.format.specs.declared.Fault.TheVariants.{Faulty, Full}
 use Rattle.monthfile.specs.declared.cursor.Cursor.{Cursor}
 use Rattle.monthfile.specs.Cursor.{rest, byte_here, Passed}
-use Rattle.monthfile.specs.Passing.{Before, Leads, Refuses, Passes, Taken, Missing, Takes, at_end, after_cr, several}
-use Rattle.monthfile.proofs.Joining.{none, leads, stays, still, taken, missing, takes, further, later, then, alike, refuses}
+use Rattle.monthfile.specs.Passing.{Leads, Refuses, Passes, Taken, Missing, Takes, at_end, after_cr, several}
+use Rattle.monthfile.proofs.Joining.{leads, stays, still, taken, missing, takes, further, later, then, alike}
 
 module _ (i : ℕ) (f : List Item) where
   -- the comma after a value, where more values follow on its line
@@ -60,39 +60,36 @@ module _ (i : ℕ) (f : List Item) where
   last_value (b ∷ u) = refl
 
 -- a CR, if one is here, and then an LF
-pub line_end : (c d e : Cursor) (q : Bool) (r : Result Unit Fault)
+pub line_end : {c d : Cursor} (e : Cursor) (q : Bool) (r : Result Unit Fault)
     → q ≡ byte_here cr (rest c) → Passed c d (cond q 1 0) → Takes lf d e r → Passes c at_end e at r
-line_end c d e true r h p g =
-    then c d e at_end after_cr at r (leads c d 1 at_end after_cr p (λ f. cr_on c.at f (rest c) (sym h)))
+line_end {c} {d} e true r h p g =
+    then e at r (leads {s' = after_cr} p (λ f. cr_on c.at f (rest c) (sym h)))
     (takes lf d after_cr at e r (λ f. byte_on d.at f lf (rest d)) (λ f. no_byte d.at f lf (rest d)) g)
-line_end c d e false r h p g =
-    let n = ap (byte_here cr) (still c d p) ∙ sym h in
-    then c d e at_end at_end at r (stays c d at_end p)
-    (takes lf d at_end at e r (λ f. lf_on d.at f (rest d)) (λ f. no_end d.at f (rest d) n) g)
-
-pub none_passed : (c : Cursor) (commas : ℕ) → Leads c (value fresh commas) c (value fresh (commas - 0))
-none_passed c commas = let e : commas ≡ commas - 0 = omega arith in subst (λ (k : ℕ). Leads c (value fresh commas) c (value fresh k)) e (none c (value fresh commas))
+line_end {c} {d} e false r h p g =
+    let n = ap (byte_here cr) (still p) ∙ sym h in
+    then e at r (stays p) (takes lf d at_end at e r (λ f. lf_on d.at f (rest d)) (λ f. no_end d.at f (rest d) n) g)
 
 -- VALUES OF A LINE, of so many commas in all; n of them are passed
-module _ (c d : Cursor) (commas n : ℕ) (l : Leads c (value fresh commas) d (value fresh (commas - n))) where
-  -- one more
+module _ {c d : Cursor} {commas : ℕ} (n : ℕ) (l : Leads c (value fresh commas) d (value fresh (commas - n))) where
+  left : (k : ℕ) → commas - n ≡ k → Leads c (value fresh commas) d (value fresh k)
+  left k e = subst (λ (k : ℕ). Leads c (value fresh commas) d (value fresh k)) e l
+
+  -- one more, or the last
   pub one_more : n < commas → Leads c (value fresh commas) d (value fresh (suc (commas - (n + 1))))
-  one_more h = let e : commas - n ≡ suc (commas - (n + 1)) = omega arith in subst (λ (k : ℕ). Leads c (value fresh commas) d (value fresh k)) e l
+  one_more h = left (suc (commas - (n + 1))) (omega arith)
 
-  -- the last
   pub the_last : commas ≤ n → Leads c (value fresh commas) d (value fresh 0)
-  the_last h = let e : commas - n ≡ 0 = omega arith in subst (λ (k : ℕ). Leads c (value fresh commas) d (value fresh k)) e l
+  the_last h = left 0 (omega arith)
 
--- after a value its comma
-pub comma_taken : (c d : Cursor) (k : ℕ) → Taken comma c d → Leads c (value nought (suc k)) d (value fresh k)
-comma_taken c d k h = taken comma c (value nought (suc k)) (value fresh k) d (λ f. comma_on c.at f k (rest c)) h
+-- after a value its comma, or the line's end
+pub comma_taken : {c d : Cursor} (k : ℕ) → Taken comma c d → Leads c (value nought (suc k)) d (value fresh k)
+comma_taken {c} k h = taken comma c (value nought (suc k)) (value fresh k) (λ f. comma_on c.at f k (rest c)) h
 
-pub comma_missing : (c : Cursor) (k : ℕ) (e : Fault) → Missing comma c e → Refuses c (value nought (suc k)) e
-comma_missing c k e h = missing comma c (value nought (suc k)) (value fresh k) e (λ f. no_comma c.at f k (rest c)) h
+pub comma_missing : {c : Cursor} {e : Fault} (k : ℕ) → Missing comma c e → Refuses c (value nought (suc k)) e
+comma_missing {c} k h = missing comma c (value nought (suc k)) (value fresh k) (λ f. no_comma c.at f k (rest c)) h
 
--- or the line's end
 pub end_next : (c d : Cursor) (r : Result Unit Fault) → Passes c at_end d at r → Passes c (value nought 0) d at r
-end_next c d r p = then c c d (value nought 0) at_end at r (alike c (value nought 0) at_end (λ f. last_value c.at f (rest c))) p
+end_next c d r p = then d at r (alike c (λ f. last_value c.at f (rest c))) p
 
 -- a line begins at no `m`
 no_m : (b : ℕ) → starts_line b ≡ true → eqb b m ≡ false
@@ -117,27 +114,19 @@ module _ (k i : ℕ) (f : List Item) where
   line_none (suc n) (b ∷ u) e = let z = ne_eqb (suc n) 0 (λ x. omega arith) in rw (e, and-false (no_room f), z)
 
 -- LINES OF A BLOCK that has room for so many in all; n of them are passed
-pub no_lines : (c : Cursor) (room k : ℕ) → Leads c (several room k) c (several (room - 0) k)
-no_lines c room k = let e : room ≡ room - 0 = omega arith in subst (λ (n : ℕ). Leads c (several room k) c (several n k)) e (none c (several room k))
+module _ {c d : Cursor} {room k : ℕ} (n : ℕ) (l : Leads c (several room k) d (several (room - n) k)) where
+  space : (r : ℕ) → room - n ≡ r → Leads c (several room k) d (several r k)
+  space r e = subst (λ (x : ℕ). Leads c (several room k) d (several x k)) e l
 
-module _ (c d : Cursor) (room k n : ℕ) (l : Leads c (several room k) d (several (room - n) k)) where
   -- one more
   pub line_more : n < room → line_here (rest d) ≡ true → Leads c (several room k) d (λ f. value fresh k (lines (up_to (room - (n + 1))) k ∷ f))
   line_more h e =
-      let m : ℕ = room - (n + 1) in
-      let q : room - n ≡ suc m = omega arith in
-      let s : Before = λ f. value fresh k (lines (up_to m) k ∷ f) in
-      further c d d (several room k) (several (suc m) k) s (subst (λ (x : ℕ). Leads c (several room k) d (several x k)) q l)
-      (alike d (several (suc m) k) s (λ f. line_on k d.at f m (rest d) e))
+      let r : ℕ = room - (n + 1) in
+      further (space (suc r) (omega arith)) (alike d (λ f. line_on k d.at f r (rest d) e))
 
   -- one too many, or none
   pub line_too_many : room ≤ n → line_here (rest d) ≡ true → Refuses c (several room k) (Full d.at)
-  line_too_many h e =
-      let q : room - n ≡ 0 = omega arith in
-      later c d (several room k) (several 0 k) (Full d.at) (subst (λ (x : ℕ). Leads c (several room k) d (several x k)) q l)
-      (refuses d (several 0 k) (Full d.at) (λ f. line_full k d.at f (rest d) e))
+  line_too_many h e = later (space 0 (omega arith)) (record { found = λ f. line_full k d.at f (rest d) e })
 
   pub lines_over : line_here (rest d) ≡ false → Leads c (several room k) d at
-  lines_over e =
-      further c d d (several room k) (several (room - n) k) at l
-      (alike d (several (room - n) k) at (λ f. line_none k d.at f (room - n) (rest d) e))
+  lines_over e = further l (alike d (λ f. line_none k d.at f (room - n) (rest d) e))

@@ -1,7 +1,7 @@
 -- Values and lines read one after the other (format's `read_line`, `read_lines`). Assumes nothing.
-use Rattle.std.proofs.Common.{ℕ, zero, suc, ◌+◌, ◌-◌, ◌≤◌, ◌<◌, ◌≡◌, refl, ap, sym, ◌∙◌, true, false, List, [], ◌∷◌, ◌++◌, map, length, get_or, take, drop, set, replicate, ℤ, pos, arith, append_assoc, append-nil, length-append}
+use Rattle.std.proofs.Common.{ℕ, zero, suc, ◌+◌, ◌-◌, ◌≤◌, ◌<◌, ◌≡◌, refl, ap, sym, ◌∙◌, true, false, List, [], ◌∷◌, ◌++◌, map, length, get_or, take, drop, set, ℤ, arith, append_assoc, append-nil, length-append}
 use Rattle.std.proofs.lemmas.List.{take_all}
-use lib.ListN.{length-set, length-map, length-replicate}
+use lib.ListN.{length-set, length-map}
 use lib.Seq.{drop-cons, set-append_seam, take-suc-set}
 use mathlib.Core.List.{map-append}
 use native.Mathlib.Numerals.{add-one}
@@ -40,14 +40,9 @@ pub record Row (c d : Cursor) (n i : ℕ) (row : List ℤ) : Type 0 where
   pub is : read_line n (rest c) ≡ prefixed (take i row) (read_line (n - i) (rest d))
   pub size : length row ≡ n
 
-pub row_none : (c : Cursor) (n : ℕ) → Row c c n 0 (replicate n (pos 0))
-row_none c n =
-    let e : n ≡ n - 0 = omega arith in
-    record { is = ap (λ (k : ℕ). read_line k (rest c)) e; size = length-replicate n (pos 0) }
-
-module _ (c d : Cursor) (n i : ℕ) (row : List ℤ) (v : Row c d n i row) where
-  pub row_more : (e f : Cursor) (x : ℤ) → i < n → GotAt (read_value (rest d)) x e → rest f ≡ past (n - (i + 1)) (rest e) → Row c f n (i + 1) (set row i x)
-  row_more e f x h g p =
+module _ {c d : Cursor} {n i : ℕ} {row : List ℤ} (v : Row c d n i row) where
+  pub row_more : {e : Cursor} {x : ℤ} (f : Cursor) → i < n → GotAt (read_value (rest d)) x e → rest f ≡ past (n - (i + 1)) (rest e) → Row c f n (i + 1) (set row i x)
+  row_more {x = x} f h g p =
       let m : ℕ = n - (i + 1) in
       let r = read_line m (rest f) in
       let q : n - i ≡ suc m = omega arith in
@@ -92,54 +87,48 @@ pub record Block {A : Type 0} (entry : List ℤ → A) (n : ℕ) (ys : List A) (
   pub is : read_lines (length ys) n (rest c) ≡ prefixed lines (read_lines (length ys - k) n (rest d))
   pub stored : xs ≡ map entry lines ++ drop k ys
 
-module _ {A : Type 0} (entry : List ℤ → A) (n : ℕ) (ys : List A) (c : Cursor) where
-  pub no_lines : Block entry n ys c c 0 ys
-  no_lines =
-      let e : length ys ≡ length ys - 0 = omega arith in
-      record { lines = []; count = refl; is = ap (λ (k : ℕ). read_lines k n (rest c)) e; stored = refl }
+module _ {A : Type 0} {entry : List ℤ → A} {n : ℕ} {ys : List A} {c d : Cursor} {k : ℕ} {xs : List A} (b : Block entry n ys c d k xs) where
+  -- the next entry is stored to
+  stores : (l : List ℤ) → k < length ys → set xs k (entry l) ≡ map entry (b.lines ++ (l ∷ [])) ++ drop (k + 1) ys
+  stores l h =
+      let e : k ≡ length (map entry b.lines) = b.count ∙ sym (length-map b.lines entry) in
+      let s : drop k ys ≡ get_or ys k (entry l) ∷ drop (k + 1) ys = rw add-one (drop-cons ys k (entry l) h) in
+      ap (λ (zs : List A). set zs k (entry l)) (b.stored ∙ ap (λ (zs : List A). map entry b.lines ++ zs) s)
+      ∙ ap (λ (i : ℕ). set (map entry b.lines ++ (get_or ys k (entry l) ∷ drop (k + 1) ys)) i (entry l)) e
+      ∙ set-append_seam (map entry b.lines) (get_or ys k (entry l)) (drop (k + 1) ys) (entry l)
+      ∙ sym
+      (ap (λ (zs : List A). zs ++ drop (k + 1) ys) (map-append entry b.lines (l ∷ []))
+      ∙ append_assoc (map entry b.lines) (entry l ∷ []) (drop (k + 1) ys))
 
-  module _ (d : Cursor) (k : ℕ) (xs : List A) (b : Block entry n ys c d k xs) where
-    -- the next entry is stored to
-    stores : (l : List ℤ) → k < length ys → set xs k (entry l) ≡ map entry (b.lines ++ (l ∷ [])) ++ drop (k + 1) ys
-    stores l h =
-        let e : k ≡ length (map entry b.lines) = b.count ∙ sym (length-map b.lines entry) in
-        let s : drop k ys ≡ get_or ys k (entry l) ∷ drop (k + 1) ys = rw add-one (drop-cons ys k (entry l) h) in
-        ap (λ (zs : List A). set zs k (entry l)) (b.stored ∙ ap (λ (zs : List A). map entry b.lines ++ zs) s)
-        ∙ ap (λ (i : ℕ). set (map entry b.lines ++ (get_or ys k (entry l) ∷ drop (k + 1) ys)) i (entry l)) e
-        ∙ set-append_seam (map entry b.lines) (get_or ys k (entry l)) (drop (k + 1) ys) (entry l)
-        ∙ sym
-        (ap (λ (zs : List A). zs ++ drop (k + 1) ys) (map-append entry b.lines (l ∷ []))
-        ∙ append_assoc (map entry b.lines) (entry l ∷ []) (drop (k + 1) ys))
+  pub one_more : {e : Cursor} {l : List ℤ} {x : A}
+      → k < length ys → line_here (rest d) ≡ true → GotAt (read_line n (rest d)) l e → x ≡ entry l → Block entry n ys c e (k + 1) (set xs k x)
+  one_more {e} {l} h t g w =
+      let m : ℕ = length ys - (k + 1) in
+      let r = read_lines m n (rest e) in
+      let q : length ys - k ≡ suc m = omega arith in
+      let s : read_lines (length ys - k) n (rest d) ≡ record { got = l ∷ r.got; left = r.left } =
+      ap (λ (z : ℕ). read_lines z n (rest d)) q ∙ one_line m n (rest d) t ∙ rw (sym g.got, sym g.left) in
+      let a = length-append b.lines (l ∷ []) in
+      record {
+        lines = b.lines ++ (l ∷ []);
+        count = omega (arith, b.count);
+        is = b.is ∙ ap (prefixed b.lines) s ∙ more_after b.lines l r.got r.left;
+        stored = ap (set xs k) w ∙ stores l h;
+      }
 
-    pub one_more : (e : Cursor) (l : List ℤ) (x : A)
-        → k < length ys → line_here (rest d) ≡ true → GotAt (read_line n (rest d)) l e → x ≡ entry l → Block entry n ys c e (k + 1) (set xs k x)
-    one_more e l x h t g w =
-        let m : ℕ = length ys - (k + 1) in
-        let r = read_lines m n (rest e) in
-        let q : length ys - k ≡ suc m = omega arith in
-        let s : read_lines (length ys - k) n (rest d) ≡ record { got = l ∷ r.got; left = r.left } =
-        ap (λ (z : ℕ). read_lines z n (rest d)) q ∙ one_line m n (rest d) t ∙ rw (sym g.got, sym g.left) in
-        let a = length-append b.lines (l ∷ []) in
-        record {
-          lines = b.lines ++ (l ∷ []);
-          count = omega (arith, b.count);
-          is = b.is ∙ ap (prefixed b.lines) s ∙ more_after b.lines l r.got r.left;
-          stored = ap (set xs k) w ∙ stores l h;
-        }
+  done : read_lines (length ys - k) n (rest d) ≡ record { got = []; left = rest d } → Filled entry (read_lines (length ys) n (rest c)) ys xs k d
+  done e =
+      let a = b.is ∙ ap (prefixed b.lines) e in
+      let g : b.lines ≡ (read_lines (length ys) n (rest c)).got = sym (ap (λ (y : Got (List (List ℤ))). y.got) a ∙ append-nil b.lines) in
+      record {
+        count = b.count ∙ ap length g;
+        stored = b.stored ∙ ap (λ (ls : List (List ℤ)). map entry ls ++ drop k ys) g;
+        left = sym (ap (λ (y : Got (List (List ℤ))). y.left) a);
+      }
 
-    done : read_lines (length ys - k) n (rest d) ≡ record { got = []; left = rest d } → Filled entry (read_lines (length ys) n (rest c)) ys xs k d
-    done e =
-        let a = b.is ∙ ap (prefixed b.lines) e in
-        let g : b.lines ≡ (read_lines (length ys) n (rest c)).got = sym (ap (λ (y : Got (List (List ℤ))). y.got) a ∙ append-nil b.lines) in
-        record {
-          count = b.count ∙ ap length g;
-          stored = b.stored ∙ ap (λ (ls : List (List ℤ)). map entry ls ++ drop k ys) g;
-          left = sym (ap (λ (y : Got (List (List ℤ))). y.left) a);
-        }
+  -- no line begins, or there is room for none
+  pub over : line_here (rest d) ≡ false → Filled entry (read_lines (length ys) n (rest c)) ys xs k d
+  over e = done (none_here (length ys - k) n (rest d) e)
 
-    -- no line begins, or there is room for none
-    pub over : line_here (rest d) ≡ false → Filled entry (read_lines (length ys) n (rest c)) ys xs k d
-    over e = done (none_here (length ys - k) n (rest d) e)
-
-    pub full : length ys ≤ k → Filled entry (read_lines (length ys) n (rest c)) ys xs k d
-    full h = done (no_room (length ys - k) n (rest d) (omega arith))
+  pub full : length ys ≤ k → Filled entry (read_lines (length ys) n (rest c)) ys xs k d
+  full h = done (no_room (length ys - k) n (rest d) (omega arith))

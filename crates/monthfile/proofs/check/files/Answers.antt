@@ -1,11 +1,8 @@
 -- Assumes nothing.
 use Rattle.std.proofs.Common.{sym, ap, ◌∙◌, arith, Ok}
 use Rattle.std.proofs.lemmas.Result.{err_from_is_err_and}
-use Rattle.monthfile.proofs.Checking.{same_start, goes_on_lem, forward, all_read, comes_back}
+use Rattle.monthfile.proofs.Checking.{goes_on_lem, forward, all_read, comes_back}
 use Rattle.monthfile.proofs.check.files.Goals as goal
-
-pub loop-at-init : goal.loop-at-init
-loop-at-init c = same_start _
 
 pub returns-in_err-at : goal.returns-in_err-at
 returns-in_err-at c =

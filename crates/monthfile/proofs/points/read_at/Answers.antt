@@ -15,4 +15,5 @@ pub returns : goal.returns
 unfolding more
 returns c =
     let e = was_whole c.scan.result _ _ c.in_ok-next.ensures.cases (λ e x. x) in
-    whole _ _ _ _ _ _ _ _ _ _ _ _ _ _ c.new-file.result _ _ _ _ c.new-file.ensures.rest c.read_block.ensures c.read_block-agents.ensures c.read_block-users.ensures c.read_block-points.ensures (sym c.scan.ensures ∙ e)
+    whole _ _ _ _ _ _ c.new-file.result c.new-file.ensures.rest
+    c.read_block.ensures c.read_block-agents.ensures c.read_block-users.ensures c.read_block-points.ensures (sym c.scan.ensures ∙ e)

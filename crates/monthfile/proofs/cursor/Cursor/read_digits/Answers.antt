@@ -33,7 +33,7 @@ loop-digit-preserved c =
 pub returns-clause-read : goal.returns-clause-read
 returns-clause-read c =
     let ds = c.digits-digit-items.result.now in
-    all_read _ _ _ _ c.digits-digit-items.ensures.digits c.digits-digit-items.ensures.passed
+    all_read c.digits-digit-items.ensures.digits c.digits-digit-items.ensures.passed
     (c.loop-digit.invariant.number ∙ ap (fold step 0) (take_all c.loop-digit.digit-index ds (omega arith)))
 
 pub returns-clause-small : goal.returns-clause-small
