@@ -1,2 +1,4 @@
 -- `Runs` is what the parts of a program tell each other. What is printed is tested and not proved.
-pub mod Runs
+pub mod Old
+pub mod Room
+pub mod Reading
