@@ -1,32 +1,86 @@
--- An accepted file lies in the slices that it was read into, and the next one begins further on. Assumes nothing.
+-- The next file, read into the programs' room: the month is its lines, and the reader goes on behind it. Assumes nothing.
 use Prim.Native.Nat.{ℕ, ◌≤◌, ◌<◌}
-use mathlib.Core.Path.{◌≡◌, refl}
+use mathlib.Core.Path.{◌≡◌, refl, ap, sym, ◌∙◌}
 use mathlib.Core.List.{List}
-use lib.ListN.{length}
+use native.Mathlib.Omega.{arith}
+use lib.IntN.{ℤ}
+use lib.ListN.{length, take, drop}
+use lib.Seq.{take-append_seam}
+use Rattle.std.specs.Prelude.{Ok, Err}
+use Rattle.std.proofs.lemmas.List.{length-map}
 use Rattle.format.specs.Blocks.{slices}
-use Rattle.format.specs.Grammar.{fits_slices}
-use Rattle.format.specs.Reading.{reading, ReadingAnswer, accepted, refused, Says}
-use Rattle.format.proofs.Answers.{reads}
+use Rattle.format.specs.Reading.{reading, ReadingAnswer, accepted, refused}
 use Rattle.format.proofs.FileByFile.{next_within}
-use Rattle.monthfile.specs.Reads.{header, answered}
+use Rattle.rules.specs.declared.Point.{Point}
+use Rattle.rules.specs.Lines.{month_lines, point_of}
+use Rattle.monthfile.specs.Reads.{Gives, Reads, as_points, header, month_line, over}
+use Rattle.monthfile.specs.declared.reader.Reader.{Reader}
 use Rattle.monthfile.specs.declared.reading.Header.{Header}
-use Rattle.monthfile.specs.declared.reading.Reading.TheVariants.{Accepted}
+use Rattle.monthfile.specs.declared.reading.Reading.TheVariants.{Accepted, Refused}
+use Rattle.runs.specs.declared.months.Month.{Month}
+use Rattle.runs.specs.declared.months.TheConstants.{AGENTS, USERS, POINTS}
+use Rattle.runs.specs.Old.{lines_of}
+use Rattle.runs.specs.Runs.{Advances, lines_in, ReadsNext}
 
-pub record Counted (agents users points from most : ℕ) (h : Header) : Type 0 where
-  pub agents_in : h.agents ≤ agents
-  pub users_in : h.users ≤ users
-  pub points_in : h.points ≤ points
-  pub further : from < h.next
-  pub within : h.next ≤ most
+-- what was read stands in front
+front : {A : Type 0} (xs ys : List A) (n : ℕ) → n ≡ length xs → take n (over xs ys) ≡ xs
+front xs ys n e = rw e (take-append_seam xs (drop (length xs) ys))
 
-module _ (a u p : ℕ) (t : List ℕ) (from : ℕ) (h : Header) where
-  pub counted : Accepted h ≡ answered (reading (slices a u p) t from) → Counted a u p from (length t) h
-  counted e = by (reading (slices a u p) t from) refl (reads (slices a u p) t from) e
+abbrev next_file : Reader → ReadingAnswer
+next_file r = reading (slices AGENTS USERS POINTS) r.text.now r.at
+
+module _ (before after : Reader) (text : after.text ≡ before.text) where
+  -- the next one begins further on
+  pub advances : (m : Month) → ReadsNext (next_file before) (Ok m) before after → Advances before after
+  advances m r = by (next_file before) refl r
     where
-      by : (y : ReadingAnswer) → reading (slices a u p) t from ≡ y → Says (slices a u p) t from y → Accepted h ≡ answered y → Counted a u p from (length t) h
-      by (accepted f next) q s e =
-          let k : h ≡ header f next = cc in
-          let few = ((fits_slices (slices a u p) f).0 s.fits).1 in
-          let on = next_within (slices a u p) t from next f q in
-          rw k (record { agents_in = few.0; users_in = few.1.0; points_in = few.1.1.0; further = on.0; within = on.1 })
-      by (refused n q) _ s e = cc
+      by : (x : ReadingAnswer) → next_file before ≡ x → ReadsNext x (Ok m) before after → Advances before after
+      by (accepted f next) q s =
+          let on = next_within (slices AGENTS USERS POINTS) before.text.now before.at next f q in
+          record { text = text; further = omega (arith, on.0, s.2); within = rw (text, s.2) on.1 }
+      by (refused n p) q s = cc
+
+  module _ (ags us ags' us' : List (List ℤ)) (ps ps' : List Point) (a : length ags ≡ 16) (u : length us ≡ 64) (p : length ps ≡ 256) where
+    on_month :
+        (x : ReadingAnswer) (h : Header)
+        → Gives as_points x ags us ps ags' us' ps' (Accepted h)
+        → after.at ≡ h.next
+        → (m : Month)
+        → lines_of m.lines ≡ month_lines h.line (take h.agents ags') (take h.users us') (take h.points ps')
+        → ReadsNext x (Ok m) before after
+    on_month (accepted f next) h g at m e =
+        let k : h ≡ header f next = cc in
+        let a : take h.agents ags' ≡ f.agents = rw g.agents_are (front f.agents ags h.agents (ap (λ (h : Header). h.agents) k)) in
+        let b : take h.users us' ≡ f.users = rw g.users_are (front f.users us h.users (ap (λ (h : Header). h.users) k)) in
+        let n : h.points ≡ length (as_points f) = ap (λ (h : Header). h.points) k ∙ sym (length-map f.points point_of) in
+        let d : take h.points ps' ≡ as_points f = rw g.points_are (front (as_points f) ps h.points n) in
+        let l : h.line ≡ month_line f = ap (λ (h : Header). h.line) k in
+        let w : month_lines h.line (take h.agents ags') (take h.users us') (take h.points ps') ≡ lines_in f = cc in
+        (e ∙ w, text, cc)
+    on_month (refused n p) h g at m e = cc
+
+    -- an accepted reading is of the month that its slices begin with
+    pub next_month :
+        (h : Header)
+        → Reads as_points before.text.now before.at ags us ps ags' us' ps' (Accepted h)
+        → after.at ≡ h.next
+        → (m : Month)
+        → lines_of m.lines ≡ month_lines h.line (take h.agents ags') (take h.users us') (take h.points ps')
+        → ReadsNext (next_file before) (Ok m) before after
+    next_month h g = on_month (next_file before) h (rw (a, u, p) at g)
+
+    on_refused :
+        (x : ReadingAnswer) (n q : ℕ)
+        → Gives as_points x ags us ps ags' us' ps' (Refused n q)
+        → after.at ≡ before.at
+        → ReadsNext x (Err (record { number = n; place = q })) before after
+    on_refused (accepted f next) n q g at = cc
+    on_refused (refused m r) n q g at = let e : n ≡ m = cc in let i : q ≡ r = cc in (cc, text, at)
+
+    -- a refused one leaves the reader where it was
+    pub next_refused :
+        (n q : ℕ)
+        → Reads as_points before.text.now before.at ags us ps ags' us' ps' (Refused n q)
+        → after.at ≡ before.at
+        → ReadsNext (next_file before) (Err (record { number = n; place = q })) before after
+    next_refused n q g = on_refused (next_file before) n q (rw (a, u, p) at g)

@@ -1,4 +1,3 @@
--- `Runs` is what the parts of a program tell each other. What is printed is tested and not proved.
+-- `Runs` is what reading the next file comes to. What is printed is tested and not proved.
 pub mod Old
-pub mod Room
-pub mod Reading
+pub mod Runs

@@ -1,12 +1,12 @@
 // The report of `consulta`: every amount of a closed month.
-ghost use Rattle.std.specs.Prelude.{◌≤◌, length};
+ghost use Rattle.statement.specs.Statement.{States};
+ghost use Rattle.runs.specs.Old.{lines_of, stated_by};
 
 use crate::books::Books;
-use crate::months::{Month, AGENTS, USERS, POINTS};
-use crate::old::{Refusal, checked};
+use crate::months::{AGENTS, Month, POINTS, USERS};
+use crate::old::{MonthLines, Refusal, checked};
 use crate::payees::{Payee, each_cell};
 use crate::report::Report;
-use rules::Point;
 use statement::{PayeeRow, PointRow, UserRow, columns as stated};
 use std::{fmt, io};
 
@@ -19,11 +19,8 @@ impl Report for Amounts {
 
     fn month<R: io::Print>(rt: &R, books: &mut Books, month: Month<'_>) -> io::Result<()> {
         let mut rows = Rows::new();
-        match rows.state_and_close(books, month) {
-            Ok(balance) => {
-                let printer = Printer { rt, month: month.lines.line.month };
-                printer.month(month, &rows, balance, books)
-            }
+        match rows.state_and_close(books, month.lines) {
+            Ok(balance) => Printer { rt, month }.amounts(&rows, balance, books),
             Err(refusal) => rt.println(refusal),
         }
     }
@@ -48,23 +45,36 @@ impl Rows {
         }
     }
 
-    // States the month with the credits held before it, and closes it: its balance.
-    fn state_and_close(&mut self, books: &mut Books, month: Month<'_>) -> Result<i64, Refusal> {
-        let lines = month.lines;
+    // States a month with the credits that are held: its balance.
+    fn state(&mut self, books: &Books, month: MonthLines<'_>) -> Result<i64, Refusal>
+        ensures { States books.now.ledger books.now.held (lines_of month.entry)
+            self.old.points self.old.users self.old.payees (stated_by result)
+            self.new.points self.new.users self.new.payees }
+    {
         let stated = statement::state(
             books.ledger,
             &books.held,
-            lines.line,
-            lines.agents,
-            lines.users,
-            lines.points,
+            month.line,
+            month.agents,
+            month.users,
+            month.points,
             &mut self.points,
             &mut self.users,
             &mut self.payees,
         );
         checked(stated.answer)?;
-        books.close(lines)?;
         Ok(stated.smse)
+    }
+
+    // States a month with the credits held before it, and closes it.
+    fn state_and_close(
+        &mut self,
+        books: &mut Books,
+        month: MonthLines<'_>,
+    ) -> Result<i64, Refusal> {
+        let balance = self.state(books, month)?;
+        books.close(month)?;
+        Ok(balance)
     }
 }
 
@@ -95,12 +105,12 @@ impl fmt::Display for Of {
 #[derive(Drop)]
 struct Printer<'a, R> {
     rt: &'a R,
-    month: i64,
+    month: Month<'a>,
 }
 
 impl<R: io::Print> Printer<'_, R> {
     fn row(&self, item: &str, of: Of, cents: i64) -> io::Result<()> {
-        let month = self.month;
+        let month = self.month.lines.line.month;
         println!(self.rt; "{month},{item},{of},{cents}")
     }
 
@@ -111,20 +121,20 @@ impl<R: io::Print> Printer<'_, R> {
         Ok(())
     }
 
-    fn points(&self, lines: &[Point], rows: &[PointRow]) -> io::Result<()>
-        requires { length lines.now ≤ length rows.now }
-    {
-        for (point, (line, r)) in (1..=lines.len()).zip(lines.iter().zip(rows)) {
-            let of = Of::Point(line.user, point);
-            self.rows(of, &[("use", r[stated::USE_CHARGE]), ("overrun", r[stated::OVERRUN])])?;
+    fn points(&self, rows: &Rows) -> io::Result<()> {
+        let points = self.month.lines.points;
+        for (number, (point, r)) in (1..=points.len()).zip(points.iter().zip(&rows.points)) {
+            let amounts = [
+                ("use", r[stated::USE_CHARGE]),
+                ("overrun", r[stated::OVERRUN]),
+            ];
+            self.rows(Of::Point(point.user, number), &amounts)?;
         }
         Ok(())
     }
 
-    fn users(&self, users: usize, rows: &[UserRow]) -> io::Result<()>
-        requires { users ≤ length rows.now }
-    {
-        for (user, r) in (1..=users).zip(rows) {
+    fn users(&self, rows: &Rows) -> io::Result<()> {
+        for (user, r) in (1..=self.month.lines.users.len()).zip(&rows.users) {
             let amounts = [
                 ("EUST", r[stated::EUST]),
                 ("overruns", r[stated::OVERRUNS]),
@@ -142,10 +152,8 @@ impl<R: io::Print> Printer<'_, R> {
         Ok(())
     }
 
-    fn agents(&self, agents: usize, rows: &[PayeeRow]) -> io::Result<()>
-        requires { agents ≤ length rows.now }
-    {
-        for (agent, r) in (1..=agents).zip(rows) {
+    fn agents(&self, rows: &Rows) -> io::Result<()> {
+        for (agent, r) in (1..=self.month.lines.agents.len()).zip(&rows.payees) {
             let amounts = [
                 ("VMST", r[stated::VMST]),
                 ("VMPA", r[stated::VMPA]),
@@ -159,22 +167,30 @@ impl<R: io::Print> Printer<'_, R> {
     }
 
     // ONS's shared part, and its credit with every direct charge.
-    fn ons(&self, r: PayeeRow) -> io::Result<()> {
+    fn ons(&self, rows: &Rows) -> io::Result<()> {
+        let r = rows.payees[self.month.lines.agents.len()];
         let amounts = [("ons", r[stated::SHARED]), ("VC", r[stated::VC])];
         self.rows(Of::Payee(Payee::Ons), &amounts)
     }
 
-    fn month(&self, month: Month<'_>, rows: &Rows, balance: i64, books: &Books) -> io::Result<()> {
-        let agents = month.lines.agents.len();
-        let users = month.lines.users.len();
-        self.points(month.lines.points, &rows.points)?;
-        self.users(users, &rows.users)?;
-        self.agents(agents, &rows.payees)?;
-        self.ons(rows.payees[agents])?;
+    fn cells(&self, books: &Books) -> io::Result<()> {
+        let lines = self.month.lines;
+        each_cell(
+            lines.agents.len(),
+            lines.users.len(),
+            &books.cells,
+            |payee: Payee, user: usize, cents: i64| {
+                self.row("cell", Of::Cell(payee, user), cents)
+            },
+        )
+    }
+
+    fn amounts(&self, rows: &Rows, balance: i64, books: &Books) -> io::Result<()> {
+        self.points(rows)?;
+        self.users(rows)?;
+        self.agents(rows)?;
+        self.ons(rows)?;
         self.row("SMSE", Of::Month, balance)?;
-        let cell = |payee: Payee, user: usize, cents: i64| {
-            self.row("cell", Of::Cell(payee, user), cents)
-        };
-        each_cell(agents, users, &books.cells, cell)
+        self.cells(books)
     }
 }

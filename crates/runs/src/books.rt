@@ -3,16 +3,21 @@ ghost use Rattle.std.specs.Prelude.{◌≡◌, ◌<◌, length, OnOk};
 ghost use Rattle.rules.specs.Calls.{Opens, Closes};
 ghost use Rattle.runs.specs.Old.{answered_by, lines_of};
 
+use crate::months::{AGENTS, USERS};
 use crate::old::{MonthLines, Refusal, checked};
 use rules::Ledger;
 
-// Room for 64 users and 16 agents: 17 × 64 cells, and twice that plus 4 × (17 + 64) entries of work.
+// Paper 01's needs: a cell for each payee and user, and of work twice that and 4 for each payee and user.
+const CELLS: usize = (AGENTS + 1) * USERS;
+
+const WORK: usize = 2 * CELLS + 4 * (AGENTS + 1 + USERS);
+
 #[derive(Drop)]
-pub struct Books {
+pub(crate) struct Books {
     pub ledger: Ledger,
-    pub held: [i64; 64],
-    pub cells: [i64; 1088],
-    pub work: [u64; 2500],
+    pub held: [i64; USERS],
+    pub cells: [i64; CELLS],
+    pub work: [u64; WORK],
 }
 
 impl Books {
@@ -24,9 +29,9 @@ impl Books {
                 agents: 0,
                 month: 0,
             },
-            held: [0; 64],
-            cells: [0; 1088],
-            work: [0; 2500],
+            held: [0; USERS],
+            cells: [0; CELLS],
+            work: [0; WORK],
         }
     }
 

@@ -41,7 +41,7 @@ fn each_file<P: Report, R: io::Print>(rt: &R, text: &[u8]) -> Result<(), Stop> {
     Ok(())
 }
 
-pub(crate) fn print<P: Report, R: io::Print>(rt: &R, text: &[u8]) -> io::Result<()> {
+pub(crate) fn print_months<P: Report, R: io::Print>(rt: &R, text: &[u8]) -> io::Result<()> {
     match each_file::<P, R>(rt, text) {
         Ok(()) => Ok(()),
         Err(Stop::Refused(refusal)) => rt.println(refusal),

@@ -1,21 +1,22 @@
 // Standard input, read to its end.
-ghost use Rattle.std.specs.Prelude.{◌≤◌, length, IfOk, IfSome};
-
 use std::io;
 use std::io::Read;
 
-// A program takes up to 32,768 bytes; an input that is longer fills one byte more.
-pub(crate) const ROOM: usize = 32769;
+// The most bytes that a program takes, and one more, by which an input that is too long is known.
+const MOST: usize = 32768;
 
-// How long the input is, which is then in the first bytes of the text; or nothing, where it fills the text and may go on.
-pub(crate) fn read_all<R: io::Input>(rt: &R, text: &mut [u8]) -> io::Result<Option<usize>>
-    ensures { IfOk result (λ read. IfSome read (λ n. n ≤ length text.new)) }
-{
+pub(crate) const ROOM: usize = MOST + 1;
+
+// The whole input, or nothing where it has filled the buffer and may go on.
+pub(crate) fn read_all<'a, R: io::Input>(
+    rt: &R,
+    buffer: &'a mut [u8],
+) -> io::Result<Option<&'a [u8]>> {
     let mut reader = rt.reader();
     let mut n = 0;
-    while n < text.len() {
-        match reader.read(&mut text[n..])? {
-            0 => return Ok(Some(n)),
+    while n < buffer.len() {
+        match reader.read(&mut buffer[n..])? {
+            0 => return Ok(Some(&buffer[..n])),
             more => n += more,
         }
     }

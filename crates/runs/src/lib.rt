@@ -1,5 +1,6 @@
 // The programs over month files (paper 01, "The month file"). Each reads standard input whole and closes file after file; they differ in
-// what they print of a month.
+// what they print of a month. A line is written by one `println`, which puts it together first: the system alone can cut one. (std's writes
+// at 1,024 bytes; of ours the longest has five numbers of at most 20 bytes.)
 //   input    standard input, up to its limit
 //   files    file after file
 //   months   a month's lines, and the room that they are read into
@@ -54,19 +55,22 @@ impl fmt::Display for Failure {
 
 // A whole run. What fails is told on standard error; a failure to say so is not.
 fn run<P: Report, R: io::Input + io::Print + io::Eprint>(rt: &R) {
-    if let Err(failure) = print::<P, R>(rt) {
+    if let Err(failure) = print_report::<P, R>(rt) {
         let _ = eprintln!(rt; "{}: {failure}", P::PROGRAM);
     }
 }
 
 // The names, then what is printed of each month.
-fn print<P: Report, R: io::Input + io::Print>(rt: &R) -> Result<(), Failure> {
+fn print_report<P: Report, R: io::Input + io::Print>(rt: &R) -> Result<(), Failure> {
     rt.println(P::COLUMNS).map_err(Failure::Writing)?;
-    let mut text = [0; input::ROOM];
-    let read = input::read_all(rt, &mut text).map_err(Failure::Reading)?;
-    let printed = match read {
-        Some(n) => files::print::<P, R>(rt, &text[..n]),
-        None => rt.println(Refusal { number: 12, place: 0 }),
+    let mut buffer = [0; input::ROOM];
+    let input = input::read_all(rt, &mut buffer).map_err(Failure::Reading)?;
+    let printed = match input {
+        Some(text) => files::print_months::<P, R>(rt, text),
+        None => rt.println(Refusal {
+            number: 12,
+            place: 0,
+        }),
     };
     printed.map_err(Failure::Writing)
 }

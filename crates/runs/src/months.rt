@@ -1,13 +1,15 @@
 // A month's lines, and the room that they are read into.
-ghost use Rattle.std.specs.Prelude.{◌≡◌, ◌<◌, ◌≤◌, length, OnOk};
-ghost use Rattle.runs.specs.Reading.{Advances};
+ghost use Rattle.std.specs.Prelude.{◌≤◌, OnOk, length};
+ghost use Rattle.format.specs.Blocks.{slices};
+ghost use Rattle.format.specs.Reading.{reading};
+ghost use Rattle.runs.specs.declared.months.TheConstants.{AGENTS, USERS, POINTS};
 
 use crate::old::{MonthLines, Refusal};
 use monthfile::reader::{Reader, read};
 use monthfile::reading::Reading;
 use rules::{AgentLine, Point, UserLine};
 
-// The room of the programs.
+// What the programs have room for.
 pub(crate) const AGENTS: usize = 16;
 
 pub(crate) const USERS: usize = 64;
@@ -16,11 +18,18 @@ pub(crate) const POINTS: usize = 256;
 
 // No more lines than there is room for.
 #[derive(Clone, Copy)]
-pub struct Month<'a> {
+pub(crate) struct Month<'a> {
     pub lines: MonthLines<'a>,
-    ghost few_agents: { length lines.agents.now ≤ 16 },
-    ghost few_users: { length lines.users.now ≤ 64 },
-    ghost few_points: { length lines.points.now ≤ 256 },
+    ghost few_agents: { length lines.agents.now ≤ AGENTS },
+    ghost few_users: { length lines.users.now ≤ USERS },
+    ghost few_points: { length lines.points.now ≤ POINTS },
+}
+
+#[derive(Drop)]
+pub(crate) struct Lines {
+    agents: [AgentLine; AGENTS],
+    users: [UserLine; USERS],
+    points: [Point; POINTS],
 }
 
 const NO_POINT: Point = Point {
@@ -35,14 +44,9 @@ const NO_POINT: Point = Point {
     vf: 0,
 };
 
-#[derive(Drop)]
-pub struct Lines {
-    agents: [AgentLine; AGENTS],
-    users: [UserLine; USERS],
-    points: [Point; POINTS],
-}
-
 impl Lines {
+    ghost use Rattle.runs.specs.Runs.{Advances, ReadsNext};
+
     pub(crate) fn new() -> Lines {
         Lines {
             agents: [[0; 7]; AGENTS],
@@ -51,12 +55,17 @@ impl Lines {
         }
     }
 
-    // The month of the next file, where the reader goes on behind it.
+    // The month of the next file, behind which the reader goes on.
     pub(crate) fn read(&mut self, reader: &mut Reader<'_>) -> Result<Month<'_>, Refusal>
-        ensures { OnOk result (Advances reader.old reader.new) }
+        ensures reads { ReadsNext (reading (slices AGENTS USERS POINTS) reader.old.text.now reader.old.at)
+            result reader.old reader.new }
+        ensures advances { OnOk result (Advances reader.old reader.new) }
     {
         match read(reader, &mut self.agents, &mut self.users, &mut self.points) {
-            Reading::Refused(number, place) => Err(Refusal { number, place: place as u64 }),
+            Reading::Refused(number, place) => Err(Refusal {
+                number,
+                place: place as u64,
+            }),
             Reading::Accepted(file) => Ok(Month {
                 lines: MonthLines {
                     line: file.line,

@@ -5,7 +5,7 @@ use std::{fmt, io, iter};
 
 // An agent by its number, ONS, or the user itself, which holds a credit.
 #[derive(Clone, Copy)]
-pub enum Payee {
+pub(crate) enum Payee {
     Agent(usize),
     Ons,
     Held,

@@ -14,13 +14,13 @@ impl Report for Table {
 
     fn month<R: io::Print>(rt: &R, books: &mut Books, month: Month<'_>) -> io::Result<()> {
         match books.close(month.lines) {
-            Ok(()) => print(rt, books, month),
+            Ok(()) => print_table(rt, books, month),
             Err(refusal) => rt.println(refusal),
         }
     }
 }
 
-fn print<R: io::Print>(rt: &R, books: &Books, month: Month<'_>) -> io::Result<()> {
+fn print_table<R: io::Print>(rt: &R, books: &Books, month: Month<'_>) -> io::Result<()> {
     let yyyymm = month.lines.line.month;
     let agents = month.lines.agents.len();
     let users = month.lines.users.len();

@@ -3,4 +3,4 @@ use Rattle.std.proofs.Common.{length, ◌-◌}
 use Rattle.runs.proofs.input.read_all.Given as goal
 
 abbrev pub decreases-loop-n : goal.decreases-loop-n
-decreases-loop-n g l = length l.initial.text - l.n
+decreases-loop-n g l = length l.initial.buffer - l.n
