@@ -1,5 +1,5 @@
 -- An accepted file is within its room, and the reader behind it.
-use Rattle.std.proofs.Common.{arith, rules, refl}
+use Rattle.std.proofs.Common.{rules, refl}
 use Rattle.runs.proofs.Buffered.{advances, next_month, next_refused}
 use Rattle.runs.proofs.months.Lines.read.Goals as goal
 
