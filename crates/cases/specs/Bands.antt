@@ -4,7 +4,8 @@ use Rattle.std.specs.Prelude.{ℕ, ◌≡◌, List, [], ◌∷◌, map, ℤ, pos
 use Rattle.rules.specs.Verdict.{accepted, refused}
 use Rattle.rules.specs.declared.Point.{Point}
 use Rattle.rules.specs.Lists.{each_from}
-use Rattle.rules.specs.Lines.{User, Lines, month_lines, point_of}
+use Rattle.rules.specs.declared.User.{User}
+use Rattle.rules.specs.Lines.{Lines, month_lines, point_of}
 use Rattle.rules.specs.State.{State}
 use Rattle.rules.specs.Charges.{of_user, EUSTs, overrun_sums, CPVs, VDs}
 use Rattle.rules.specs.Bands.{use_once, overrun_once}

@@ -2,19 +2,18 @@
 use Prim.Native.Nat.{ℕ, ◌+◌, ◌-◌, ◌*◌, ◌≤◌, ◌<◌}
 use native.Mathlib.Omega.{arith}
 use mathlib.Core.Path.{◌≡◌, sym, ap, ap₂, ◌∙◌}
-use mathlib.Core.List.{List, ◌++◌, map}
+use mathlib.Core.List.{List, ◌++◌}
 use lib.IntN.{ℤ, pos, ◌+ℤ◌}
-use lib.ListN.{length, take, get_or, length-append, length-drop, length-map}
+use lib.ListN.{length, take, get_or, length-append, length-drop}
 use lib.Seq.{take_at, get_or-drop}
 use Rattle.ints.specs.Bridge.{abs, za}
 use Rattle.ints.specs.Bounds.{word_abs, word_wide, word_nonneg, words_small}
 use Rattle.ints.specs.Sums.{Small}
 use Rattle.rules.specs.declared.Ledger.{Ledger}
-use Rattle.rules.specs.declared.MonthLine.{MonthLine}
 use Rattle.rules.specs.Verdict.{Verdict}
 use Rattle.rules.specs.Lists.{side_by_side}
 use Rattle.rules.specs.Most.{most_amount}
-use Rattle.rules.specs.Lines.{Lines, agent_of, user_of}
+use Rattle.rules.specs.Lines.{Lines}
 use Rattle.rules.specs.State.{State}
 use Rattle.rules.specs.Charges.{VDs, new_credits}
 use Rattle.rules.specs.Credits.{VCsFrom, VCs}
@@ -50,73 +49,61 @@ fillable_passed s l w p =
       equal = t.credits_are_debits;
     }
 
-module _ {bills : Bills} {line : MonthLine} {agents : List (List ℤ)} {held cells : List ℤ} {work : List ℕ} {ledger : Ledger}
-    {users : List (List ℤ)} {st : State} {short : Verdict} {l : Lines} (w : Writable bills line agents held cells work ledger users st short l) where
+module _ {bills : Bills} {ledger : Ledger} {l : Lines} {held cells : List ℤ} {work : List ℕ} {st : State} {short : Verdict} (w
+    : Writable bills ledger l held cells work st short) where
   p : Passed st l
   p = passed st short l w.accepts
 
   credit_count : length st.credits ≡ length l.users
   credit_count = w.one_each ∙ sym p.users
 
-  held_is : length held ≡ length l.users
-  held_is = w.held_count ∙ sym p.users
-
   fillable : Fillable (VCs st l) (VDs st l)
   fillable = fillable_passed st l w.one_each p
 
-  pub few_users : length held ≤ 512
-  few_users = omega (arith, w.held_count, p.few_users)
+  pub few_users : length l.users ≤ 512
+  few_users = omega (arith, p.users, p.few_users)
 
-  agent_count : length agents ≡ length l.agents
-  agent_count = sym (length-map agents agent_of) ∙ ap length w.agents_are
-
-  user_count : length users ≡ length held
-  user_count = sym (length-map users user_of) ∙ ap length w.users_are ∙ sym held_is
-
-  agents_so : length agents ≡ st.agents
-  agents_so = agent_count ∙ p.agents
+  pub few_agents : length l.agents ≤ 256
+  few_agents = omega (arith, p.agents, p.few_agents)
 
   -- ---- the direct charges of the users
   ong_small : Small most_amount (ongs l.users)
   ong_small = (bounds_direct p).small
 
-  pub few_agents : length agents ≤ 256
-  few_agents = omega (arith, agent_count, p.agents, p.few_agents)
-
   -- ---- the credits of the payees
-  pub payable : Payable bills.total ledger.month line (map agent_of agents)
-  payable = rw (w.last_is, w.line_is, w.bills_are.total, w.agents_are) (payable_passed st l w.one_each p)
+  pub payable : Payable bills.total ledger.month l.line l.agents
+  payable = rw (w.last_is, w.bills_are.total) (payable_passed st l w.one_each p)
 
-  pub credits_are : VCsFrom bills.total ledger.month line (map agent_of agents) ≡ VCs st l
-  credits_are = rw (w.last_is, w.line_is, w.bills_are.total, w.agents_are)
+  pub credits_are : {total last : ℤ} {vc : List ℤ} → total ≡ bills.total → last ≡ ledger.month → vc ≡ VCsFrom total last l.line l.agents → vc ≡ VCs st l
+  credits_are t m e = e ∙ rw (t, m, w.last_is, w.bills_are.total)
 
-  pub payee_count : length (VCs st l) ≡ length agents + 1
-  payee_count = omega (arith, length_VCs st l, agent_count)
+  pub payee_count : length (VCs st l) ≡ length l.agents + 1
+  payee_count = omega (arith, length_VCs st l)
 
   -- ---- the debits and the new held credits of the users
-  debit_count : length (VDs st l) ≡ length held
-  debit_count = length_VDs st l credit_count ∙ sym held_is
+  debit_count : length (VDs st l) ≡ length l.users
+  debit_count = length_VDs st l credit_count
 
-  new_count : length (new_credits st l) ≡ length held
-  new_count = length_new_credits st l credit_count ∙ sym held_is
+  new_count : length (new_credits st l) ≡ length l.users
+  new_count = length_new_credits st l credit_count
 
-  pub first_debits : take (length held) bills.debits ≡ VDs st l
-  first_debits = rw w.bills_are.debits (take_at (VDs st l) _ (length held) debit_count)
+  pub first_debits : take (length l.users) bills.debits ≡ VDs st l
+  first_debits = rw w.bills_are.debits (take_at (VDs st l) _ (length l.users) debit_count)
 
-  pub first_credits : take (length held) bills.credits ≡ new_credits st l
-  first_credits = rw w.bills_are.credits (take_at (new_credits st l) _ (length held) new_count)
+  pub first_credits : take (length l.users) bills.credits ≡ new_credits st l
+  first_credits = rw w.bills_are.credits (take_at (new_credits st l) _ (length l.users) new_count)
 
   -- ---- the table
   module _ {vc : List ℤ} (e : vc ≡ VCs st l) where
     -- the credits stand first in their array
-    pub first_payees : (rest : List ℤ) → take (length agents + 1) (vc ++ rest) ≡ vc
-    first_payees rest = take_at vc rest (length agents + 1) (ap length e ∙ payee_count)
+    pub first_payees : (rest : List ℤ) → take (length l.agents + 1) (vc ++ rest) ≡ vc
+    first_payees rest = take_at vc rest (length l.agents + 1) (ap length e ∙ payee_count)
 
-    pub payees_reach : (rest : List ℤ) → length agents + 1 ≤ length (vc ++ rest)
+    pub payees_reach : (rest : List ℤ) → length l.agents + 1 ≤ length (vc ++ rest)
     payees_reach rest = simp length-append (omega (arith, ap length e, payee_count))
 
     module _ {vd : List ℤ} (f : vd ≡ VDs st l) where
-      size : length vc * length vd ≡ (length agents + 1) * length held
+      size : length vc * length vd ≡ (length l.agents + 1) * length l.users
       size = ap₂ ◌*◌ (ap length e ∙ payee_count) (ap length f ∙ debit_count)
 
       pub asked : Fillable vc vd × (length cells ≡ length vc * length vd) × (length vc * length vd ≤ length work)
@@ -127,35 +114,35 @@ module _ {bills : Bills} {line : MonthLine} {agents : List (List ℤ)} {held cel
         shared : Table (VCs st l) (VDs st l) laid
         shared = rw (sym e, sym f) t
 
-        long : length laid ≡ (length agents + 1) * length held
+        long : length laid ≡ (length l.agents + 1) * length l.users
         long = t.size ∙ size
 
         -- where the last row begins
-        before : length laid - length users ≡ st.agents * st.users
-        before = ap₂ ◌-◌ (long ∙ ap₂ (λ (m n : ℕ). (m + 1) * n) agents_so w.held_count) (user_count ∙ w.held_count) ∙ omega arith
+        before : length laid - length l.users ≡ st.agents * st.users
+        before = ap₂ ◌-◌ (long ∙ ap₂ (λ (m n : ℕ). (m + 1) * n) p.agents p.users) p.users ∙ omega arith
 
-        last_long : length (last_row (length users) laid) ≡ length users
-        last_long = length-drop (length laid - length users) laid ∙ omega (arith, long, user_count)
+        last_long : length (last_row (length l.users) laid) ≡ length l.users
+        last_long = length-drop (length laid - length l.users) laid ∙ omega (arith, long)
 
         -- its entries are cells, and so small
-        entry : (j : ℕ) → j < length (last_row (length users) laid) → abs (get_or (last_row (length users) laid) j (pos 0)) ≤ 100000000000000000
+        entry : (j : ℕ) → j < length (last_row (length l.users) laid) → abs (get_or (last_row (length l.users) laid) j (pos 0)) ≤ 100000000000000000
         entry j h =
-            let q : j < length held = omega (arith, last_long, user_count) in
-            let c = shared.cell st.agents j (omega (arith, payee_count, agents_so)) (omega (arith, debit_count)) in
-            let b = (bounds st l w.one_each p).cells.cell_at_lem st.agents j (omega (arith, p.agents)) (omega (arith, held_is)) c in
+            let q : j < length l.users = omega (arith, last_long) in
+            let c = shared.cell st.agents j (omega (arith, payee_count, p.agents)) (omega (arith, debit_count)) in
+            let b = (bounds st l w.one_each p).cells.cell_at_lem st.agents j (omega (arith, p.agents)) q c in
             let small : abs (cell_at st.users laid st.agents j) ≤ 100000000000000000 =
-            rw (debit_count ∙ w.held_count) at (word_abs (word_wide 100000000000000000 100000000000000000 b tt tt)) in
-            rw (get_or-drop (length laid - length users) laid j (pos 0), before) small
+            rw (debit_count ∙ p.users) at (word_abs (word_wide 100000000000000000 100000000000000000 b tt tt)) in
+            rw (get_or-drop (length laid - length l.users) laid j (pos 0), before) small
 
-        pub may_add : (length users ≤ length laid) × Small most_amount (ongs (map user_of users)) × Small 100000000000000000 (last_row (length users) laid)
-        may_add = (omega (arith, long, user_count), rw w.users_are ong_small, record { small = entry })
+        pub may_add : (length l.users ≤ length laid) × Small most_amount (ongs l.users) × Small 100000000000000000 (last_row (length l.users) laid)
+        may_add = (omega (arith, long), ong_small, record { small = entry })
 
         pub written :
             {held' cells' : List ℤ} {work' : List ℕ}
-            → cells' ≡ rows_before (length users) laid ++ side_by_side ◌+ℤ◌ (last_row (length users) laid) (ongs (map user_of users))
+            → cells' ≡ rows_before (length l.users) laid ++ side_by_side ◌+ℤ◌ (last_row (length l.users) laid) (ongs l.users)
             → held' ≡ new_credits st l
             → length work' ≡ length work
             → Written st l work held' cells' work'
         written r h s =
-            let needed : length laid ≡ (st.agents + 1) * st.users = long ∙ ap₂ (λ (m n : ℕ). (m + 1) * n) agents_so w.held_count in
-            record { credits = h; table = rw (r, before, w.users_are) (month_table st l p.users laid needed shared); scratch = s }
+            let needed : length laid ≡ (st.agents + 1) * st.users = long ∙ ap₂ (λ (m n : ℕ). (m + 1) * n) p.agents p.users in
+            record { credits = h; table = rw (r, before) (month_table st l p.users laid needed shared); scratch = s }

@@ -1,9 +1,8 @@
 -- What an accepted month writes, and what that asks.
-use Rattle.std.specs.Prelude.{ℕ, ◌+◌, ◌*◌, ◌≤◌, ◌≡◌, List, map, ℤ, length}
+use Rattle.std.specs.Prelude.{ℕ, ◌+◌, ◌*◌, ◌≤◌, ◌≡◌, List, ℤ, length}
 use Rattle.rules.specs.declared.Ledger.{Ledger}
-use Rattle.rules.specs.declared.MonthLine.{MonthLine}
 use Rattle.rules.specs.Verdict.{Verdict, accepted}
-use Rattle.rules.specs.Lines.{Lines, agent_of, user_of}
+use Rattle.rules.specs.Lines.{Lines}
 use Rattle.rules.specs.State.{State}
 use Rattle.rules.specs.Charges.{new_credits}
 use Rattle.rules.specs.Direct.{MonthTable}
@@ -12,18 +11,15 @@ use Rattle.charges.specs.declared.month.Bills.{Bills}
 use Rattle.charges.specs.Month.{Billed}
 
 -- nothing refuses the lines l on the state st, whose credits are one for each user; the bills are theirs, and every slice has the room
-pub record Writable (bills : Bills) (line : MonthLine) (agents : List (List ℤ)) (held cells : List ℤ) (work : List ℕ) (ledger : Ledger)
-    (users : List (List ℤ)) (st : State) (short : Verdict) (l : Lines) : Type 0 where
+pub record Writable (bills : Bills) (ledger : Ledger) (l : Lines) (held cells : List ℤ) (work : List ℕ) (st : State) (short : Verdict)
+    : Type 0 where
   pub accepts : refusal st short l ≡ accepted
   pub one_each : length st.credits ≡ st.users
   pub last_is : ledger.month ≡ st.month
-  pub line_is : line ≡ l.line
-  pub agents_are : map agent_of agents ≡ l.agents
-  pub users_are : map user_of users ≡ l.users
-  pub bills_are : Billed (length held) st l bills
-  pub held_count : length held ≡ st.users
-  pub cells_count : length cells ≡ (length agents + 1) * length held
-  pub work_count : (length agents + 1) * length held ≤ length work
+  pub bills_are : Billed (length l.users) st l bills
+  pub held_count : length held ≡ length l.users
+  pub cells_count : length cells ≡ (length l.agents + 1) * length l.users
+  pub work_count : (length l.agents + 1) * length l.users ≤ length work
 
 -- the slices as they are left
 pub record Written (st : State) (l : Lines) (work : List ℕ) (held' cells' : List ℤ) (work' : List ℕ) : Type 0 where

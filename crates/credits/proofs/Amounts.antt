@@ -14,7 +14,7 @@ use Rattle.ints.specs.Adding.{Summable}
 use Rattle.share.specs.Filling.{Fillable}
 use Rattle.share.proofs.Laws.{parts_small}
 use Rattle.rules.specs.Most.{most_amount, most_balance, most_debits, most_own, most_parcels}
-use Rattle.rules.specs.Lines.{Agent}
+use Rattle.rules.specs.declared.Agent.{Agent}
 use Rattle.rules.specs.declared.MonthLine.{MonthLine}
 use Rattle.rules.specs.Ranges.{MonthAfter}
 use Rattle.rules.specs.Charges.{pvs}
@@ -64,7 +64,7 @@ module _ {agents : List Agent} (l : AgentLines agents) where
     own_total = word_total 400000000000 256 _ own_words (few _) tt
 
 module _ {debits last : ℤ} {line : MonthLine} {agents : List Agent} (p : Payable debits last line agents) where
-  owed : Word 0 most_debits debits
+  pub owed : Word 0 most_debits debits
   owed = let w = p.owed in word (omega za) (omega za) tt
 
   pub balance : Word 102500000000000 most_balance (SMSEFrom debits last line agents)

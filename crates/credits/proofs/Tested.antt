@@ -9,7 +9,8 @@ use lib.Signed.{◌<ℤ◌}
 use Rattle.ints.specs.Bridge.{za}
 use Rattle.ints.specs.Sums.{sum_ℤ}
 use Rattle.rules.specs.Verdict.{accepted, each_line}
-use Rattle.rules.specs.Lines.{Agent, Lines, agent_of}
+use Rattle.rules.specs.declared.Agent.{Agent}
+use Rattle.rules.specs.Lines.{Lines, agent_of}
 use Rattle.rules.specs.Charges.{EUSTs, pv_total, VDs}
 use Rattle.rules.specs.State.{State}
 use Rattle.rules.specs.Credits.{pbs}

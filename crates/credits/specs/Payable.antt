@@ -5,7 +5,7 @@ use Rattle.ints.specs.Range.{Within}
 use Rattle.ints.specs.Sums.{sum_ℤ}
 use Rattle.rules.specs.declared.MonthLine.{MonthLine}
 use Rattle.rules.specs.Most.{most_debits}
-use Rattle.rules.specs.Lines.{Agent}
+use Rattle.rules.specs.declared.Agent.{Agent}
 use Rattle.rules.specs.Ranges.{Amount, MonthAfter}
 use Rattle.rules.specs.Credits.{SMSEFrom, pbs, VMANTsFrom, agent_VCs_from}
 use Rattle.credits.specs.Columns.{AgentLines}

@@ -1,20 +1,18 @@
 // What one agent receives before the balance is shared.
 ghost use Rattle.std.specs.Prelude.{◌≡◌, pos};
 ghost use Rattle.ints.specs.Floor.{floor};
-ghost use Rattle.rules.specs.Lines.{Agent, agent_of};
+ghost use Rattle.rules.specs.declared.Agent.{Agent};
 ghost use Rattle.rules.specs.Credits.{VMPA, VMST, own_credit};
 ghost use Rattle.rules.specs.Ranges.{Correction, AmountsFit, Twelfths};
 
-use rules::{AgentLine, columns};
+use rules::Agent;
 
-// Twelfths rounded down. `/` cuts towards zero, so what is below 0 is moved up before and down after.
+// Twelfths rounded down: `/` cuts towards zero.
+#[tactic(auto, using(crate::proofs::Euclid::floor_is_euclid))]
 fn floor_12(x: i64) -> i64
     ensures { result ≡ floor x (pos 12) }
 {
-    if x < 0 {
-        return (x + 1) / 12 - 1;
-    }
-    x / 12
+    x.div_euclid(12)
 }
 
 // VMPA: what falls due of a yearly adjustment after cycle month b, up to c.
@@ -26,17 +24,17 @@ pub fn vmpa(b: i64, c: i64, pa: i64) -> i64
 }
 
 // VMST = pb − pv + afs − rfs.
-pub fn vmst(line: AgentLine) -> i64
-    requires { AmountsFit (agent_of line) }
-    ensures { result ≡ VMST (agent_of line) }
+pub fn vmst(agent: Agent) -> i64
+    requires { AmountsFit agent }
+    ensures { result ≡ VMST agent }
 {
-    line[columns::PB] - line[columns::PV] + line[columns::AFS] - line[columns::RFS]
+    agent.pb - agent.pv + agent.afs - agent.rfs
 }
 
 // VMST + VMPA + ret.
-pub(crate) fn own_credit(b: i64, c: i64, line: AgentLine) -> i64
-    requires { Twelfths b c × AmountsFit (agent_of line) }
-    ensures { result ≡ own_credit b c (agent_of line) }
+pub(crate) fn own_credit(b: i64, c: i64, agent: Agent) -> i64
+    requires { Twelfths b c × AmountsFit agent }
+    ensures { result ≡ own_credit b c agent }
 {
-    vmst(line) + vmpa(b, c, line[columns::PA]) + line[columns::AGENT_RET]
+    vmst(agent) + vmpa(b, c, agent.pa) + agent.ret
 }

@@ -4,6 +4,7 @@ ghost use Rattle.rules.specs.Calendar.{impossible_month, cycle_month, cycle_of, 
 ghost use Rattle.rules.specs.Ranges.{MonthAfter};
 
 // Cycle month: July 1 to June 12; any other number has 0, as in the definition. A possible month is above 0, where % is mm.
+#[tactic(auto, using(crate::proofs::Months::cycle_month_at, crate::proofs::Months::twelve))]
 pub fn cycle_month(month: i64) -> i64
     requires { impossible_month month ≡ false }
     ensures { result ≡ cycle_month month }

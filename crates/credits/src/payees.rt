@@ -1,33 +1,24 @@
-// The credits of a month's payees, from the agent lines, the last closed month and the total of the users' debits.
-ghost use Rattle.std.specs.Prelude.{◌+◌, ◌≤◌, ◌≡◌, map, pos, ◌+ℤ◌, ◌-ℤ◌, length};
+// The credits of a month's payees.
+ghost use Rattle.std.specs.Prelude.{◌+◌, ◌≤◌, ◌≡◌, pos, ◌+ℤ◌, ◌-ℤ◌, length};
 ghost use Rattle.ints.specs.Bridge.{abs};
 ghost use Rattle.ints.specs.Range.{Within};
 ghost use Rattle.ints.specs.Sums.{Small};
 ghost use Rattle.rules.specs.Most.{most_balance, most_debits, most_own};
-ghost use Rattle.rules.specs.Lines.{agent_of};
 ghost use Rattle.rules.specs.Credits.{own_credits_from, VCsFrom};
 ghost use Rattle.rules.specs.Lists.{side_by_side};
-ghost use Rattle.rules.specs.Ranges.{Amount, MonthAfter};
-ghost use Rattle.credits.specs.Columns.{AgentLines};
+ghost use Rattle.rules.specs.Ranges.{Amount};
 ghost use Rattle.credits.specs.Payable.{Payable, AgentCredits};
 
-use rules::{AgentLine, MonthLine};
+use rules::{Agent, MonthLine};
 
-// Writes VMST + VMPA + ret of each agent.
-fn own_credits(last: i64, line: MonthLine, agents: &[AgentLine], out: &mut [i64])
-    requires { MonthAfter last line.month
-        × AgentLines (map agent_of agents.now)
-        × (length out.old ≡ length agents.now) }
-    ensures { out.new ≡ own_credits_from last line (map agent_of agents.now) }
-{
-    let b = crate::cycle::settled_to(last, line.month);
-    let c = crate::cycle::cycle_month(line.month);
-    let n = agents.len();
-    let mut i = 0;
-    while i < n {
-        out[i] = crate::agent::own_credit(b, c, agents[i]);
-        i += 1;
-    }
+// What the credits are worked out from: the total of the users' debits, the last closed month, 0 for none, the month line and the agents.
+#[derive(Clone, Copy)]
+pub struct Payees<'a> {
+    pub debits: i64,
+    pub last: i64,
+    pub line: MonthLine,
+    pub agents: &'a [Agent],
+    pub ghost payable: { Payable debits last line agents.now },
 }
 
 // Balance SMSE: what the users owe, less what the agents receive of their own, less ons.
@@ -45,55 +36,48 @@ fn add_each(parts: &[i64], out: &mut [i64])
         × (length parts.now ≡ length out.old) }
     ensures { out.new ≡ side_by_side ◌+ℤ◌ out.old parts.now }
 {
-    let n = parts.len();
-    let mut i = 0;
-    while i < n {
-        out[i] = out[i] + parts[i];
-        i += 1;
+    for (i, part) in parts.iter().enumerate() {
+        out[i] += *part;
     }
 }
 
-// Writes the agents' credits: their own, and their parts of the balance over pb, which it writes too. Answers the balance.
-pub fn agent_credits(
-    debits: i64,
-    last: i64,
-    line: MonthLine,
-    agents: &[AgentLine],
-    pb: &mut [i64],
-    vmant: &mut [i64],
-    vc: &mut [i64],
-) -> i64
-    requires { Payable debits last line (map agent_of agents.now)
-        × (length pb.old ≡ length agents.now)
-        × (length vmant.old ≡ length agents.now)
-        × (length vc.old ≡ length agents.now) }
-    ensures { AgentCredits debits last line (map agent_of agents.now) result pb.new vmant.new vc.new }
-{
-    own_credits(last, line, agents, vc);
-    let balance = smse(debits, ints::total(vc), line.ons);
-    crate::columns::pbs(agents, pb);
-    share::fill(balance, crate::columns::pb_total(agents), pb, vmant);
-    add_each(vmant, vc);
-    balance
-}
+impl Payees<'_> {
+    // Writes VMST + VMPA + ret of each agent.
+    fn own_credits(&self, out: &mut [i64])
+        requires { length out.old ≡ length self.now.agents.now }
+        ensures { out.new ≡ own_credits_from self.now.last self.now.line self.now.agents.now }
+    {
+        let b = crate::cycle::settled_to(self.last, self.line.month);
+        let c = crate::cycle::cycle_month(self.line.month);
+        for (i, agent) in self.agents.iter().enumerate() {
+            out[i] = crate::agent::own_credit(b, c, *agent);
+        }
+    }
 
-// Writes the credit of every payee: the agents in order, and then ONS, with ons.
-pub fn vcs(debits: i64, last: i64, line: MonthLine, agents: &[AgentLine], vc: &mut [i64])
-    requires { Payable debits last line (map agent_of agents.now) × (length vc.old ≡ length agents.now + 1) }
-    ensures { vc.new ≡ VCsFrom debits last line (map agent_of agents.now) }
-{
-    let n = agents.len();
-    let mut pb = [0i64; 256];
-    let mut vmant = [0i64; 256];
-    agent_credits(
-        debits,
-        last,
-        line,
-        agents,
-        &mut pb[..n],
-        &mut vmant[..n],
-        &mut vc[..n],
-    );
-    let ons = line.ons;
-    vc[n] = ons;
+    // Writes the agents' credits: their own, and their parts of the balance over pb, which it writes too. Answers the balance.
+    pub fn agent_credits(&self, pb: &mut [i64], vmant: &mut [i64], vc: &mut [i64]) -> i64
+        requires { (length pb.old ≡ length self.now.agents.now)
+            × (length vmant.old ≡ length self.now.agents.now)
+            × (length vc.old ≡ length self.now.agents.now) }
+        ensures { AgentCredits self.now.debits self.now.last self.now.line self.now.agents.now result pb.new vmant.new vc.new }
+    {
+        self.own_credits(vc);
+        let balance = smse(self.debits, ints::total(vc), self.line.ons);
+        crate::columns::pbs(self.agents, pb);
+        share::fill(balance, crate::columns::pb_total(self.agents), pb, vmant);
+        add_each(vmant, vc);
+        balance
+    }
+
+    // Writes the credit of every payee: the agents in order, and then ONS, with ons.
+    pub fn vcs(&self, vc: &mut [i64])
+        requires { length vc.old ≡ length self.now.agents.now + 1 }
+        ensures { vc.new ≡ VCsFrom self.now.debits self.now.last self.now.line self.now.agents.now }
+    {
+        let n = self.agents.len();
+        let mut pb = [0; 256];
+        let mut vmant = [0; 256];
+        self.agent_credits(&mut pb[..n], &mut vmant[..n], &mut vc[..n]);
+        vc[n] = self.line.ons;
+    }
 }

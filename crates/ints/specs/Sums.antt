@@ -1,7 +1,7 @@
 -- Sums of whole numbers: of a list, and of a function over the numbers below n.
 use mathlib.Core.Path.{◌≡◌, refl, sym, ap, ◌∙◌}
 use Rattle.std.specs.Prelude.{List, [], ◌∷◌, ◌++◌, ℕ, zero, suc, ◌+◌, ◌*◌, ◌^◌, ◌≤◌, ◌<◌, length, take, get_or, set, ◌≤ℤ◌}
-use Rattle.std.proofs.Common.{zero-le, suc-le-suc, arith, le_of_suc-le-suc, not-suc-le-zero, mul-le-mul_left, add-one, take-suc, SFits}
+use Rattle.std.proofs.Common.{zero-le, suc-le-suc, arith, le_of_suc-le-suc, not-suc-le-zero, mul-le-mul_left, add-one, take-suc, take_all, SFits}
 use lib.IntN.{ℤ, pos, ◌+ℤ◌, ◌-ℤ◌, ◌*ℤ◌, +ℤ_idl, +ℤ_idr, +ℤ_assoc}
 use Rattle.std.specs.Int.{w64}
 use Rattle.ints.specs.Bridge.{abs, za, add#}
@@ -31,20 +31,12 @@ sum_none = refl
 pub sum_more : (xs : List ℤ) (i : ℕ) (d : ℤ) → i < length xs → sum_ℤ (take (i + 1) xs) ≡ sum_ℤ (take i xs) +ℤ get_or xs i d
 sum_more xs i d h = rw (add-one, take-suc xs i d h, sum_append, sum_one)
 
-take_none : (xs : List ℤ) → take 0 xs ≡ []
-take_none [] = refl
-take_none (x ∷ xs) = refl
-
 pub sum_start : (xs : List ℤ) → sum_ℤ (take 0 xs) ≡ pos 0
 unfolding sum_ℤ
-sum_start xs = ap sum_ℤ (take_none xs)
-
-take_all : (xs : List ℤ) → take (length xs) xs ≡ xs
-take_all [] = refl
-take_all (x ∷ xs) = ap (λ (l : List ℤ). x ∷ l) (take_all xs)
+sum_start xs = refl
 
 pub sum_end : (xs : List ℤ) (i : ℕ) → i ≡ length xs → sum_ℤ (take i xs) ≡ sum_ℤ xs
-sum_end xs i e = ap (λ (k : ℕ). sum_ℤ (take k xs)) e ∙ ap sum_ℤ (take_all xs)
+sum_end xs i e = ap sum_ℤ (take_all i xs (omega arith))
 
 -- each element at most K in size: so is the sum, K times the length, and so is each part's
 pub record Small (K : ℕ) (xs : List ℤ) : Type 0 where

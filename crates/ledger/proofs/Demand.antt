@@ -19,8 +19,9 @@ use borrow.Fn.World.{World}
 use lib.IntN.{ℤ}
 use lib.ListN.{take}
 use Rattle.rules.specs.declared.Ledger.{Ledger}
-use Rattle.rules.specs.declared.Answer.TheVariants.{Accepted}
-use Rattle.rules.specs.Lines.{month_lines}
+use Rattle.rules.specs.Verdict.{accepted}
+use Rattle.rules.specs.Lines.{lines_of}
+use Rattle.rules.specs.Answers.{verdict_of}
 use Rattle.rules.specs.Demand.{Call, AllPromised, Demand3, SliceLeft}
 use Rattle.rules.specs.Demand as rules
 use Rattle.rules.specs.NoDirect.{NoneDirect, AsBefore}
@@ -44,12 +45,12 @@ pub record Opened : Type 0 where
   pub result : Res open'.signature κs
   pub last : Lasts open'.ended κs args
   pub learnt : open_reads.Learnt κs args result (at_exit open'.ended κs args last)
-  pub accepted : result.answer ≡ Accepted
+  pub accepted : verdict_of result.answer ≡ accepted
 
 -- neither has a `requires` that its caller would have to show first
 pub asks_nothing :
     ((κs : Lfts 1) (a : Args open'.signature κs) → open_reads.Asked κs a)
-    × ((κs : Lfts 6) (a : Args close.signature κs) (w : World) → ent w.𝓤 (emp w.𝓤) (required κs a w))
+    × ((κs : Lfts 4) (a : Args close.signature κs) (w : World) → ent w.𝓤 (emp w.𝓤) (required κs a w))
 asks_nothing = (λ κs a. tt, λ κs a w. id⊢ w.𝓤 (emp w.𝓤))
 
 -- open(users, agents, held): the held slice as it was handed in, and as it was left
@@ -63,20 +64,20 @@ held_left o = o.last.1.1.0
 abbrev pub credits_left : Opened → List ℤ
 credits_left o = take o.args.0 (held_left o)
 
--- close(ledger, held, line, agents, users, points, cells, work), its parts by name
+-- close(ledger, held, month, cells, work), its parts by name
 abbrev pub plain : Called → Call
 plain c =
     let a = c.args.1.1 in
     record {
       ledger = c.args.0;
       held = c.args.1.0.now;
-      lines = month_lines a.0 a.1.0.now a.1.1.0.now a.1.1.1.0.now;
-      cells = a.1.1.1.1.0.now;
-      work = a.1.1.1.1.1.0.now;
+      lines = lines_of a.0;
+      cells = a.1.0.now;
+      work = a.1.1.0.now;
       outcome = c.result;
       held_left = c.last.1.0;
-      cells_left = c.last.1.1.1.1.1.1.0;
-      work_left = c.last.1.1.1.1.1.1.1.0;
+      cells_left = c.last.1.1.1.0;
+      work_left = c.last.1.1.1.1.0;
     }
 
 -- the first closing gets the ledger and is lent the held credits of the opening, each later one those of the call before it

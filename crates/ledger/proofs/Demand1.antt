@@ -1,19 +1,14 @@
--- DEMAND 1 (paper 01, "Why a month comes back" and "The ledger"), over the checked contracts of `open`, `close` and `close_lines`. Of
+-- DEMAND 1 (paper 01, "Why a month comes back" and "The ledger"), over the checked contracts of `open` and `close`. Of
 -- every call, accepted or not: exactly the limits of rules/specs/Limits decide its answer; a refused call leaves the ledger and each slice
 -- as they were, entry for entry; an accepted one leaves every entry beyond its work as it was.
 --
 -- What is assumed of a call is what a caller learns from the contract that the program is proved to meet, as for demand 3
 -- (proofs/Demand). Nothing else is.
-use mathlib.Core.List.{map}
-use Rattle.rules.specs.Lines.{point_of, month_lines}
-use Rattle.rules.specs.Demand.{Call}
 use Rattle.rules.specs.Demand1.{Demand1Opening, Demand1Closing}
 use Rattle.rules.proofs.Demand1.{demand_1_opening, demand_1_closing}
 use Rattle.records.proofs.Learnt.{CallOf}
 use Rattle.ledger.specs.contracts.open as open'
 use Rattle.ledger.proofs.open.Reads as open_reads
-use Rattle.ledger.specs.contracts.close_lines as close_lines
-use Rattle.ledger.proofs.close_lines.Reads as close_lines_reads
 use Rattle.ledger.proofs.Demand.{Called, plain}
 
 -- ---- opening
@@ -28,26 +23,3 @@ Demand_1_opening o = demand_1_opening o.args.0 o.args.1.0 o.args.1.1.0.now o.res
 -- ---- closing
 pub Demand_1_closing : (c : Called) → Demand1Closing (plain c)
 Demand_1_closing c = demand_1_closing (plain c) c.learnt
-
--- ---- closing a month whose points are lines
-abbrev pub CalledLines : Type 0
-CalledLines = CallOf close_lines.ended close_lines_reads.Learnt
-
--- close_lines(ledger, held, line, agents, users, points, cells, work), its parts by name
-abbrev pub plain_lines : CalledLines → Call
-plain_lines c =
-    let a = c.args.1.1 in
-    record {
-      ledger = c.args.0;
-      held = c.args.1.0.now;
-      lines = month_lines a.0 a.1.0.now a.1.1.0.now (map point_of a.1.1.1.0.now);
-      cells = a.1.1.1.1.0.now;
-      work = a.1.1.1.1.1.0.now;
-      outcome = c.result;
-      held_left = c.last.1.0;
-      cells_left = c.last.1.1.1.1.1.1.0;
-      work_left = c.last.1.1.1.1.1.1.1.0;
-    }
-
-pub Demand_1_closing_lines : (c : CalledLines) → Demand1Closing (plain_lines c)
-Demand_1_closing_lines c = demand_1_closing (plain_lines c) c.learnt

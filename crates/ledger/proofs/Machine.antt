@@ -29,7 +29,8 @@ use denote.Triple.Spec.{Spec, Meets, Back, triple_of, exits}
 use denote.Triple.Adequate.{adequate}
 use lib.IntN.{ℤ}
 use Rattle.rules.specs.declared.Ledger.{Ledger}
-use Rattle.rules.specs.declared.Answer.TheVariants.{Accepted}
+use Rattle.rules.specs.Verdict.{accepted}
+use Rattle.rules.specs.Answers.{verdict_of}
 use Rattle.rules.specs.Demand.{Lent, left_in, Demand3, Chain as RulesChain}
 use Rattle.ledger.specs.contracts.open as open'
 use Rattle.ledger.proofs.open.Reads as open_reads
@@ -177,13 +178,13 @@ module _ {M : Type 1} {𝓤 : Ura M} (𝓛 : Logic 𝓤) (𝓜 : Model 𝓤 𝓛
       (λ y. ∥∥₁_map (plays w n y.result.ledger (left_in credits y.last.1.0) (c.6 y)) (λ p. (y, p)))
 
   -- an opening that was run and accepted
-  abbrev pub opened : (x : Bound 𝓛 open'.signature) (σ : Memory) (F : SProp 𝓤) (y : OpenRan x σ F) → y.result.answer ≡ Accepted → Opened
+  abbrev pub opened : (x : Bound 𝓛 open'.signature) (σ : Memory) (F : SProp 𝓤) (y : OpenRan x σ F) → verdict_of y.result.answer ≡ accepted → Opened
   opened x σ F y e = record { κs = x.0; args = x.3; result = y.result; last = y.last; learnt = y.holds; accepted = e }
 
   -- DEMAND 3 OF RUNS: from any accepted run of open, whatever the caller, its runs of close end, and meet demand 3
   pub demand_3_of_runs :
       Wired 𝓡.env close_code.code
-      → (x : Bound 𝓛 open'.signature) (σ : Memory) (F : SProp 𝓤) (y : OpenRan x σ F) (e : y.result.answer ≡ Accepted)
+      → (x : Bound 𝓛 open'.signature) (σ : Memory) (F : SProp 𝓤) (y : OpenRan x σ F) (e : verdict_of y.result.answer ≡ accepted)
       → let o = opened x σ F y e in
       (n : ℕ) (c : Caller n o.result.ledger (credits_left o))
       → ∥ ((p : Play n o.result.ledger (credits_left o) c)

@@ -1,4 +1,4 @@
--- The contracts of `open`, `close` and `close_lines`, written out, and that the functions' own routines meet them: no caller has to show
+-- The contracts of `open` and `close`, written out, and that the functions' own routines meet them: no caller has to show
 -- anything first, and what a caller gets goes by the verdict on the arguments, the answer and the slices' last values. Each holds by
 -- computation, so a changed contract in src/lib.rt is refused here. Assumes nothing: it is shown at every model.
 use seplogic.Ra.Ura.{Ura}
@@ -8,10 +8,9 @@ use types.Logic.{Logic}
 use contract.Monad.{fact}
 use contract.Running.{Running}
 use prog.Wired.{Wired}
-use mathlib.Core.List.{map}
 use lib.ListN.{length}
 use denote.Triple.Spec.{Spec, Meets, exits}
-use Rattle.rules.specs.Lines.{point_of, month_lines}
+use Rattle.rules.specs.Lines.{Lines}
 use Rattle.rules.specs.Verdict.{ByVerdict}
 use Rattle.rules.specs.Refusals.{short_slices, refusal, opening_refusal}
 use Rattle.rules.specs.Calls.{state_of, lengths_of, Opened, NotOpened, Closed, NotClosed}
@@ -21,9 +20,6 @@ use Rattle.ledger.proofs.open.Met as open_met
 use Rattle.ledger.specs.contracts.close as close
 use Rattle.ledger.proofs.close.Symbol as close_code
 use Rattle.ledger.proofs.close.Met as close_met
-use Rattle.ledger.specs.contracts.close_lines as close_lines
-use Rattle.ledger.proofs.close_lines.Symbol as close_lines_code
-use Rattle.ledger.proofs.close_lines.Met as close_lines_met
 
 module _ {M : Type 1} {𝓤 : Ura M} (𝓛 : Logic 𝓤) (𝓜 : Model 𝓤 𝓛.H) (𝓡 : Running 𝓤 𝓛.H 𝓜) where
   -- open(users, agents, held)
@@ -43,14 +39,14 @@ module _ {M : Type 1} {𝓤 : Ura M} (𝓛 : Logic 𝓤) (𝓜 : Model 𝓤 𝓛
   pub open_meets : Wired 𝓡.env open_code.code → Meets 𝓛 open'.signature (𝓡.run (𝓡.env open_code.name)) open_promise
   open_meets = open_met.met 𝓤 𝓛 𝓜 𝓡
 
-  -- close(ledger, held, line, agents, users, points, cells, work)
+  -- close(ledger, held, month, cells, work)
   abbrev pub close_promise : Spec 𝓤 close.signature
   close_promise κs a =
       let held = a.1.0.now in
-      let b = a.1.1 in
-      let l = month_lines b.0 b.1.0.now b.1.1.0.now b.1.1.1.0.now in
-      let cells = b.1.1.1.1.0.now in
-      let work = b.1.1.1.1.1.0.now in
+      let m = a.1.1.0 in
+      let l : Lines = record { line = m.line; agents = m.agents.now; users = m.users.now; points = m.points.now } in
+      let cells = a.1.1.1.0.now in
+      let work = a.1.1.1.1.0.now in
       record {
         ghost = Unit {0};
         requires = λ g. emp 𝓤;
@@ -58,8 +54,8 @@ module _ {M : Type 1} {𝓤 : Ura M} (𝓛 : Logic 𝓤) (𝓜 : Model 𝓤 𝓛
             exits 𝓛 close.signature (close.ended).kept κs a
             (λ e.
             let held' = e.1.0.now in
-            let cells' = e.1.1.1.1.1.1.0.now in
-            let work' = e.1.1.1.1.1.1.1.0.now in
+            let cells' = e.1.1.1.0.now in
+            let work' = e.1.1.1.1.0.now in
             fact 𝓤
             (ByVerdict (refusal (state_of a.0 held) (short_slices (state_of a.0 held) (lengths_of held cells work)) l)
             (Closed a.0 held l cells work r held' cells' work')
@@ -68,29 +64,3 @@ module _ {M : Type 1} {𝓤 : Ura M} (𝓛 : Logic 𝓤) (𝓜 : Model 𝓤 𝓛
 
   pub close_meets : Wired 𝓡.env close_code.code → Meets 𝓛 close.signature (𝓡.run (𝓡.env close_code.name)) close_promise
   close_meets = close_met.met 𝓤 𝓛 𝓜 𝓡
-
-  -- close_lines(ledger, held, line, agents, users, points, cells, work)
-  abbrev pub close_lines_promise : Spec 𝓤 close_lines.signature
-  close_lines_promise κs a =
-      let held = a.1.0.now in
-      let b = a.1.1 in
-      let l = month_lines b.0 b.1.0.now b.1.1.0.now (map point_of b.1.1.1.0.now) in
-      let cells = b.1.1.1.1.0.now in
-      let work = b.1.1.1.1.1.0.now in
-      record {
-        ghost = Unit {0};
-        requires = λ g. emp 𝓤;
-        ensures = λ g r.
-            exits 𝓛 close_lines.signature (close_lines.ended).kept κs a
-            (λ e.
-            let held' = e.1.0.now in
-            let cells' = e.1.1.1.1.1.1.0.now in
-            let work' = e.1.1.1.1.1.1.1.0.now in
-            fact 𝓤
-            (ByVerdict (refusal (state_of a.0 held) (short_slices (state_of a.0 held) (lengths_of held cells work)) l)
-            (Closed a.0 held l cells work r held' cells' work')
-            (NotClosed a.0 held cells work r held' cells' work')));
-      }
-
-  pub close_lines_meets : Wired 𝓡.env close_lines_code.code → Meets 𝓛 close_lines.signature (𝓡.run (𝓡.env close_lines_code.name)) close_lines_promise
-  close_lines_meets = close_lines_met.met 𝓤 𝓛 𝓜 𝓡

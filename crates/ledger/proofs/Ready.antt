@@ -8,8 +8,8 @@ use seplogic.Ra.Ura.{Ura}
 use base.Fraction.{full_share}
 use lib.IntN.{ℤ}
 use mir.Syntax.{w64, Lifetime, named}
-use mir.Val.{Val, vint, Fits}
-use base.Logic.{SProp, ent, sep, emp, id⊢, via, comm∗, assoc∗, assoc', mono_l, mono_r, emp∗}
+use mir.Val.{Val, vint, vstruct, of_list, Fits}
+use base.Logic.{SProp, ent, sep, guard, emp, id⊢, via, comm∗, assoc∗, assoc', mono_l, mono_r, emp∗, ex_i, guard_i}
 use base.Fml.{Lft, Fml}
 use prog.Memory.{Memory}
 use prog.Model.{Model}
@@ -20,27 +20,35 @@ use contract.Running.{Running}
 use contract.Adequate.{Satisfies, sat_weaken}
 use denote.RattleType.{RattleType}
 use denote.Laws.{Is, Makes, Lawful}
-use denote.Array.{Array, Array-Lawful, Array-Makes}
 use denote.ArrayMemory.{Single}
 use denote.Builtin.{u64, i64}
 use denote.Plain.{uint_Lawful, uint_Makes}
 use denote.Signed.{sint_Lawful, sint_Makes}
-use denote.Copied.{Copied, sint_Copied, Array-Copied}
+use denote.Copied.{Copied}
 use denote.Ref.{Bor, MutBor}
 use denote.Slice.{MutSlice, ShrSlice, shr_slice_vals, mut_slice_vals}
+use denote.RattleType.{Denots, Valss, flat, owns}
+use denote.Ref.{NamedLft}
+use denote.Struct.Struct.{Shape, Struct, within}
+use denote.Struct.Declared.{shape}
 use denote.Struct.Laws as LL
 use denote.Triple.Bound.{Bound}
 use Rattle.rules.specs.contracts.Ledger as G
 use Rattle.rules.proofs.Ledger.TheLaws as G'
 use Rattle.rules.specs.contracts.MonthLine as L
 use Rattle.rules.proofs.MonthLine.TheLaws as L'
+use Rattle.rules.specs.contracts.Agent as A
+use Rattle.rules.proofs.Agent.TheLaws as A'
+use Rattle.rules.specs.contracts.User as U
+use Rattle.rules.proofs.User.TheLaws as U'
 use Rattle.rules.specs.contracts.Point as P
 use Rattle.rules.proofs.Point.TheLaws as P'
-use Rattle.records.proofs.Widths.{agent_width, user_width, Ra, Ru}
+use Rattle.rules.specs.contracts.MonthLines as ML
+use Rattle.rules.specs.declared.MonthLines.{MonthLines}
 use Rattle.ledger.specs.contracts.open as open'
 use Rattle.ledger.specs.contracts.close as close
 use Rattle.ledger.proofs.Machine.{OpenReady, CloseReady}
-use Rattle.ledger.proofs.Fitting.{Word, Slice, Closing, handed, ClosingFits, words, counts, lines, points, ledger_is, month_line_is}
+use Rattle.ledger.proofs.Fitting.{Word, Slice, Closing, handed, ClosingFits, words, counts, agents, users, points, ledger_is, month_line_is}
 use Rattle.ledger.proofs.Placing.{Lies, started, begun, known, lent_mut, lent_shr}
 
 module _ {M : Type 1} {𝓤 : Ura M} (𝓛 : Logic 𝓤) (𝓜 : Model 𝓤 𝓛.H) (𝓡 : Running 𝓤 𝓛.H 𝓜) where
@@ -160,11 +168,11 @@ module _ {M : Type 1} {𝓤 : Ura M} (𝓛 : Logic 𝓤) (𝓜 : Model 𝓤 𝓛
   abbrev sint : Lawful 𝓛 i64 × Makes 𝓛 i64 (Is i64)
   sint = (sint_Lawful 𝓛 w64, sint_Makes 𝓛 w64)
 
-  abbrev row : (n : ℕ) → Lawful 𝓛 (Array i64 n) × Makes 𝓛 (Array i64 n) (Is (Array i64 n))
-  row n = (Array-Lawful 𝓛 i64 sint.0 n, Array-Makes 𝓛 i64 sint.1 n)
+  abbrev agent : Lawful 𝓛 A.the_row × Makes 𝓛 A.the_row (Is A.the_row)
+  agent = (LL.lawful A.the_type A'.the_laws 𝓛, LL.makes A.the_type A'.the_plain 𝓛)
 
-  row_copied : (n : ℕ) → Copied 𝓛 (Array i64 n)
-  row_copied n = Array-Copied 𝓛 i64 (sint_Copied 𝓛 w64) tt n
+  abbrev user : Lawful 𝓛 U.the_row × Makes 𝓛 U.the_row (Is U.the_row)
+  user = (LL.lawful U.the_type U'.the_laws 𝓛, LL.makes U.the_type U'.the_plain 𝓛)
 
   abbrev point : Lawful 𝓛 P.the_row × Makes 𝓛 P.the_row (Is P.the_row)
   point = (LL.lawful P.the_type P'.the_laws 𝓛, LL.makes P.the_type P'.the_plain 𝓛)
@@ -200,6 +208,51 @@ module _ {M : Type 1} {𝓤 : Ura M} (𝓛 : Logic 𝓤) (𝓜 : Model 𝓤 𝓛
         ready = entry Q₁ K x.0 s₁;
       }))
 
+  -- ---- a struct is owned where its fields are
+  struct_owned :
+      (S : Shape) (d : Denots S.fields) (vss : Valss S.fields)
+      → ent 𝓤 ⟦ owns S.fields d vss ⟧ ⟦ (Struct S).own_val d (vstruct (of_list (flat S.fields vss)) ∷ []) ⟧
+  struct_owned S d vss =
+      let P : Pr = ⟦ owns S.fields d vss ⟧ in
+      let vs : List Val = vstruct (of_list (flat S.fields vss)) ∷ [] in
+      via 𝓤 (emp 𝓤 ∗ P) (emp∗ 𝓤 P)
+      (via 𝓤 (guard 𝓤 (vs ≡ vs) (emp 𝓤) ∗ P) (mono_l 𝓤 P (guard_i 𝓤 (vs ≡ vs) (emp 𝓤) refl))
+      (ex_i 𝓤 (λ (w : Valss S.fields). ⟦ within S d vs w ⟧) vss))
+
+  -- owned one after the other, in front of what else is: the last field, and one before others
+  field_last : (P Q : Pr) → ent 𝓤 (P ∗ Q) ((P ∗ emp 𝓤) ∗ Q)
+  field_last P Q = mono_l 𝓤 Q (via 𝓤 (emp 𝓤 ∗ P) (emp∗ 𝓤 P) (comm∗ 𝓤 (emp 𝓤) P))
+
+  field_first : (P E R Q : Pr) → ent 𝓤 E (R ∗ Q) → ent 𝓤 (P ∗ E) ((P ∗ R) ∗ Q)
+  field_first P E R Q h = via 𝓤 (P ∗ (R ∗ Q)) (mono_r 𝓤 P h) (assoc' 𝓤 P R Q)
+
+  -- a month's lines: the month line, and the references to those of agents, users and points
+  module _ (a : NamedLft) (m : MonthLines) where
+    abbrev month_parts : Valss (shape (ML.the_type a)).fields
+    month_parts =
+        (LL.vals L.the_type L'.the_laws m.line, (shr_slice_vals m.agents, (shr_slice_vals m.users, (shr_slice_vals m.points, tt))))
+
+    abbrev month_vals : List Val
+    month_vals = vstruct (of_list (flat (shape (ML.the_type a)).fields month_parts)) ∷ []
+
+    month_owned :
+        (Q : Pr)
+        → ent 𝓤
+        (⟦ (L.the_row).own_val m.line (LL.vals L.the_type L'.the_laws m.line) ⟧
+        ∗ (⟦ (ShrSlice a.mir a.lft A.the_row).own_val m.agents (shr_slice_vals m.agents) ⟧
+        ∗ (⟦ (ShrSlice a.mir a.lft U.the_row).own_val m.users (shr_slice_vals m.users) ⟧
+        ∗ (⟦ (ShrSlice a.mir a.lft P.the_row).own_val m.points (shr_slice_vals m.points) ⟧ ∗ Q))))
+        (⟦ (ML.the_row a).own_val m month_vals ⟧ ∗ Q)
+    month_owned Q =
+        let l : Pr = ⟦ (L.the_row).own_val m.line (LL.vals L.the_type L'.the_laws m.line) ⟧ in
+        let ag : Pr = ⟦ (ShrSlice a.mir a.lft A.the_row).own_val m.agents (shr_slice_vals m.agents) ⟧ in
+        let us : Pr = ⟦ (ShrSlice a.mir a.lft U.the_row).own_val m.users (shr_slice_vals m.users) ⟧ in
+        let ps : Pr = ⟦ (ShrSlice a.mir a.lft P.the_row).own_val m.points (shr_slice_vals m.points) ⟧ in
+        via 𝓤 ((l ∗ (ag ∗ (us ∗ (ps ∗ emp 𝓤)))) ∗ Q)
+        (field_first l (ag ∗ (us ∗ (ps ∗ Q))) (ag ∗ (us ∗ (ps ∗ emp 𝓤))) Q
+        (field_first ag (us ∗ (ps ∗ Q)) (us ∗ (ps ∗ emp 𝓤)) Q (field_first us (ps ∗ Q) (ps ∗ emp 𝓤) Q (field_last ps Q))))
+        (mono_l 𝓤 Q (struct_owned (shape (ML.the_type a)) ((ML.the_type a).to m) month_parts))
+
   -- ---- close
   pub record CloseFrom (c : Closing) : Type 1 where
     pub bound : Bound 𝓛 close.signature
@@ -209,27 +262,29 @@ module _ {M : Type 1} {𝓤 : Ura M} (𝓛 : Logic 𝓤) (𝓜 : Model 𝓤 𝓛
 
   pub close_ready : (c : Closing) → ClosingFits c → ∥ CloseFrom c ∥₁
   close_ready c f =
-      ∥∥₁_elim (begins 6) ∥∥₁_prop (λ k.
+      ∥∥₁_elim (begins 4) ∥∥₁_prop (λ k.
       let κs = k.0 in
-      let κ : (j : ℕ) → Within 6 j → Lft = λ j ok. lft_at 6 j ok κs in
-      let K : Pr = Toks 6 κs in
+      let κ : (j : ℕ) → Within 4 j → Lft = λ j ok. lft_at 4 j ok κs in
+      let K : Pr = Toks 4 κs in
       let s₉ : start_mem [] [] ⊨ emp 𝓤 ∗ K = none K (start_mem [] []) k.1 in
-      ∥∥₁_elim (writable u64 tt uint (counts c.work f.work) (named 5) (κ 5 tt) (emp 𝓤) K (start_mem [] []) s₉) ∥∥₁_prop (λ x₈.
-      let Q₈ : Pr = ⟦ (MutSlice (named 5) (κ 5 tt) u64).own_val x₈.1 (mut_slice_vals x₈.1) ⟧ ∗ emp 𝓤 in
-      ∥∥₁_elim (writable i64 tt sint (words c.cells f.cells) (named 4) (κ 4 tt) Q₈ K x₈.0 x₈.3) ∥∥₁_prop (λ x₇.
-      let Q₇ : Pr = ⟦ (MutSlice (named 4) (κ 4 tt) i64).own_val x₇.1 (mut_slice_vals x₇.1) ⟧ ∗ Q₈ in
-      ∥∥₁_elim (readable P.the_row tt point (LL.copied P.the_type P'.the_copy 𝓛) (points c.points f.points) (named 3) 6 3 tt κs Q₇ x₇.0 x₇.3) ∥∥₁_prop (λ x₆.
-      let Q₆ : Pr = ⟦ (ShrSlice (named 3) (κ 3 tt) P.the_row).own_val x₆.1 (shr_slice_vals x₆.1) ⟧ ∗ Q₇ in
-      ∥∥₁_elim (readable Ru tt (row user_width) (row_copied user_width) (lines user_width c.users f.users) (named 2) 6 2 tt κs Q₆ x₆.0 x₆.3) ∥∥₁_prop (λ x₅.
-      let Q₅ : Pr = ⟦ (ShrSlice (named 2) (κ 2 tt) Ru).own_val x₅.1 (shr_slice_vals x₅.1) ⟧ ∗ Q₆ in
-      ∥∥₁_elim (readable Ra tt (row agent_width) (row_copied agent_width) (lines agent_width c.agents f.agents) (named 1) 6 1 tt κs Q₅ x₅.0 x₅.3)
-      ∥∥₁_prop (λ x₄.
-      let Q₄ : Pr = ⟦ (ShrSlice (named 1) (κ 1 tt) Ra).own_val x₄.1 (shr_slice_vals x₄.1) ⟧ ∗ Q₅ in
+      ∥∥₁_elim (writable u64 tt uint (counts c.work f.work) (named 3) (κ 3 tt) (emp 𝓤) K (start_mem [] []) s₉) ∥∥₁_prop (λ x₈.
+      let Q₈ : Pr = ⟦ (MutSlice (named 3) (κ 3 tt) u64).own_val x₈.1 (mut_slice_vals x₈.1) ⟧ ∗ emp 𝓤 in
+      ∥∥₁_elim (writable i64 tt sint (words c.cells f.cells) (named 2) (κ 2 tt) Q₈ K x₈.0 x₈.3) ∥∥₁_prop (λ x₇.
+      let Q₇ : Pr = ⟦ (MutSlice (named 2) (κ 2 tt) i64).own_val x₇.1 (mut_slice_vals x₇.1) ⟧ ∗ Q₈ in
+      ∥∥₁_elim (readable P.the_row tt point (LL.copied P.the_type P'.the_copy 𝓛) (points c.points f.points) (named 1) 4 1 tt κs Q₇ x₇.0 x₇.3) ∥∥₁_prop (λ x₆.
+      let Q₆ : Pr = ⟦ (ShrSlice (named 1) (κ 1 tt) P.the_row).own_val x₆.1 (shr_slice_vals x₆.1) ⟧ ∗ Q₇ in
+      ∥∥₁_elim (readable U.the_row tt user (LL.copied U.the_type U'.the_copy 𝓛) (users c.users f.users) (named 1) 4 1 tt κs Q₆ x₆.0 x₆.3) ∥∥₁_prop (λ x₅.
+      let Q₅ : Pr = ⟦ (ShrSlice (named 1) (κ 1 tt) U.the_row).own_val x₅.1 (shr_slice_vals x₅.1) ⟧ ∗ Q₆ in
+      ∥∥₁_elim (readable A.the_row tt agent (LL.copied A.the_type A'.the_copy 𝓛) (agents c.agents f.agents) (named 1) 4 1 tt κs Q₅ x₅.0 x₅.3) ∥∥₁_prop (λ x₄.
+      let Q₄ : Pr = ⟦ (ShrSlice (named 1) (κ 1 tt) A.the_row).own_val x₄.1 (shr_slice_vals x₄.1) ⟧ ∗ Q₅ in
       let line = LL.vals L.the_type L'.the_laws c.line in
-      let Q₃ : Pr = ⟦ (L.the_row).own_val c.line line ⟧ ∗ Q₄ in
-      let s₃ : x₄.0 ⊨ Q₃ ∗ K =
+      let s₃ : x₄.0 ⊨ (⟦ (L.the_row).own_val c.line line ⟧ ∗ Q₄) ∗ K =
       value L.the_row (LL.makes L.the_type L'.the_plain 𝓛) c.line line (month_line_is c.line f.line) Q₄ K x₄.0 x₄.3 in
-      ∥∥₁_map (writable i64 tt sint (words c.held f.held) (named 0) (κ 0 tt) Q₃ K x₄.0 s₃) (λ x₂.
+      let a : NamedLft = record { mir = named 1; lft = κ 1 tt } in
+      let m : MonthLines = record { line = c.line; agents = x₄.1; users = x₅.1; points = x₆.1 } in
+      let Q₃ : Pr = ⟦ (ML.the_row a).own_val m (month_vals a m) ⟧ ∗ Q₇ in
+      let s₂ : x₄.0 ⊨ Q₃ ∗ K = sat_weaken 𝓤 H 𝓜 x₄.0 (mono_l 𝓤 K (month_owned a m Q₇)) s₃ in
+      ∥∥₁_map (writable i64 tt sint (words c.held f.held) (named 0) (κ 0 tt) Q₃ K x₄.0 s₂) (λ x₂.
       let Q₂ : Pr = ⟦ (MutSlice (named 0) (κ 0 tt) i64).own_val x₂.1 (mut_slice_vals x₂.1) ⟧ ∗ Q₃ in
       let ledger = LL.vals G.the_type G'.the_laws c.ledger in
       let Q₁ : Pr = ⟦ (G.the_row).own_val c.ledger ledger ⟧ ∗ Q₂ in
@@ -238,16 +293,10 @@ module _ {M : Type 1} {𝓤 : Ura M} (𝓛 : Logic 𝓤) (𝓜 : Model 𝓤 𝓛
       record {
         bound = (
           κs,
-          wholes 6,
+          wholes 4,
           tt,
-          (c.ledger, (x₂.1, (c.line, (x₄.1, (x₅.1, (x₆.1, (x₇.1, (x₈.1, tt)))))))),
-          (
-            ledger,
-            (
-              mut_slice_vals x₂.1,
-              (line, (shr_slice_vals x₄.1, (shr_slice_vals x₅.1, (shr_slice_vals x₆.1, (mut_slice_vals x₇.1, (mut_slice_vals x₈.1, tt)))))),
-            ),
-          ),
+          (c.ledger, (x₂.1, (m, (x₇.1, (x₈.1, tt))))),
+          (ledger, (mut_slice_vals x₂.1, (month_vals a m, (mut_slice_vals x₇.1, (mut_slice_vals x₈.1, tt))))),
         );
         memory = x₂.0;
         same = λ i.

@@ -10,12 +10,16 @@ use contract.Lifetimes.{Lfts}
 use denote.Ref.{Bor, MutBor}
 use Rattle.ints.specs.Bridge.{za}
 use Rattle.rules.specs.declared.Ledger.{Ledger}
+use Rattle.rules.specs.declared.Agent.{Agent}
 use Rattle.rules.specs.declared.MonthLine.{MonthLine}
-use Rattle.rules.specs.declared.Answer.TheVariants.{Accepted, Refused}
-use Rattle.rules.specs.declared.Outcome.{Outcome}
+use Rattle.rules.specs.declared.User.{User}
+use Rattle.std.specs.Prelude.{Ok, Err}
+use Rattle.rules.specs.declared.outcomes.Lent.TheVariants.{Held}
+use Rattle.rules.specs.declared.outcomes.Refusal.TheVariants.{ShortSlice}
+use Rattle.rules.specs.declared.outcomes.Outcome.{Outcome}
 use Rattle.rules.specs.declared.Point.{Point}
 use Rattle.rules.specs.Verdict.{accepted}
-use Rattle.rules.specs.Lines.{month_lines}
+use Rattle.rules.specs.Lines.{agent_of, user_of}
 use Rattle.rules.specs.Charges.{VDs}
 use Rattle.rules.specs.Credits.{VCs}
 use Rattle.rules.specs.Refusals.{bad_counts, short_slices, count_tests, refusal, opening_refusal}
@@ -41,8 +45,8 @@ tables s l w v e =
 -- what a caller picks for a closing, besides the ledger and the held credits that it has
 pub record Month : Type 0 where
   pub line : MonthLine
-  pub agents : List (List ℤ)
-  pub users : List (List ℤ)
+  pub agents : List Agent
+  pub users : List User
   pub points : List Point
   pub lent : Lending
   pub cells : List ℤ
@@ -52,18 +56,19 @@ pub record Month : Type 0 where
 abbrev pub picked : Lending → Called → Month
 picked d c =
     let a = c.args.1.1 in
+    let m = a.0 in
     record {
-      line = a.0;
-      agents = a.1.0.now;
-      users = a.1.1.0.now;
-      points = a.1.1.1.0.now;
+      line = m.line;
+      agents = m.agents.now;
+      users = m.users.now;
+      points = m.points.now;
       lent = d;
-      cells = a.1.1.1.1.0.now;
-      work = a.1.1.1.1.1.0.now;
+      cells = a.1.0.now;
+      work = a.1.1.0.now;
     }
 
 abbrev input : Month → Input
-input m = record { lines = month_lines m.line m.agents m.users m.points; lent = m.lent; cells = m.cells; work = m.work }
+input m = record { lines = record { line = m.line; agents = m.agents; users = m.users; points = m.points }; lent = m.lent; cells = m.cells; work = m.work }
 
 -- these calls are of these months, each lent the credits that the one before left
 unfoldable pub Of : List ℤ → List Called → List Month → Type 0
@@ -80,7 +85,7 @@ lent x = record { ref_ptr = (0, 0); now = x }
 abbrev lent_mut : {X : Type 0} → X → MutBor X
 lent_mut x = record { ref_ptr = (0, 0); ghost_name = 0; now = x }
 
-module _ (κs : Lfts 6) where
+module _ (κs : Lfts 4) where
   abbrev called :
       (g : Ledger) (held : List ℤ) (m : Month) (r : Outcome) (held' cells' : List ℤ) (work' : List ℕ)
       → Closes g held (input m).lines m.cells m.work r held' cells' work'
@@ -88,9 +93,18 @@ module _ (κs : Lfts 6) where
   called g held m r held' cells' work' p =
       record {
         κs = κs;
-        args = (g, (lent_mut held, (m.line, (lent m.agents, (lent m.users, (lent m.points, (lent_mut m.cells, (lent_mut m.work, tt))))))));
+        args = (
+          g,
+          (
+            lent_mut held,
+            (
+              record { line = m.line; agents = lent m.agents; users = lent m.users; points = lent m.points },
+              (lent_mut m.cells, (lent_mut m.work, tt)),
+            ),
+          ),
+        );
         result = r;
-        last = (tt, (held', (tt, (tt, (tt, (tt, (cells', (work', tt))))))));
+        last = (tt, (held', (tt, (cells', (work', tt)))));
         learnt = p;
       }
 
@@ -131,11 +145,11 @@ pub record Some (users agents : ℕ) (held : List ℤ) (months : List Month) : T
   pub users_same : opened.args.0 ≡ users
   pub agents_same : opened.args.1.0 ≡ agents
   pub held_same : held_at opened ≡ held
-  pub lifetimes : Lfts 6
+  pub lifetimes : Lfts 4
   pub closings : Closings lifetimes opened.result.ledger (credits_left opened) months
 
 pub some :
-    (κ : Lfts 1) (κs : Lfts 6) (users agents : ℕ) (held : List ℤ) (months : List Month)
+    (κ : Lfts 1) (κs : Lfts 4) (users agents : ℕ) (held : List ℤ) (months : List Month)
     → opening_refusal users agents (length held) ≡ accepted
     → Some users agents held months
 some κ κs users agents held months e =
@@ -144,7 +158,7 @@ some κ κs users agents held months e =
           record {
             κs = κ;
             args = (users, (agents, (lent_mut held, tt)));
-            result = record { answer = Accepted; ledger = record { users = users; agents = agents; month = pos 0 } };
+            result = record { answer = Ok tt; ledger = record { users = users; agents = agents; month = pos 0 } };
             last = (tt, (tt, (replicate users (pos 0) ++ drop users held, tt)));
             learnt = opens_accepted users agents held e;
             accepted = refl;
@@ -162,8 +176,8 @@ abbrev short_month : Month
 short_month =
     record {
       line = record { month = pos 202407; ons = pos 0 };
-      agents = [] ∷ [];
-      users = [] ∷ [];
+      agents = agent_of [] ∷ [];
+      users = user_of [] ∷ [];
       points = [];
       lent = short 0;
       cells = [];
@@ -176,12 +190,12 @@ pub record ShortFirst (months : List Month) : Type 0 where
   pub first : Called
   pub month : picked (short 0) first ≡ short_month
   pub lent : first.args.1.0.now ≡ []
-  pub answer : first.result.answer ≡ Refused 2 1
+  pub answer : first.result.answer ≡ Err (ShortSlice Held)
   pub later : List Called
   pub same : Of (credits_left opened) later months
   pub chain : Chain opened.result.ledger (credits_left opened) (first ∷ later)
 
-pub short_first : (κ : Lfts 1) (κs : Lfts 6) (months : List Month) → ShortFirst months
+pub short_first : (κ : Lfts 1) (κs : Lfts 4) (months : List Month) → ShortFirst months
 unfolding RulesChain refusal count_tests bad_counts short_slices opening_refusal some
 short_first κ κs months =
     let s = some κ κs 1 1 (pos 0 ∷ []) months refl in
@@ -190,7 +204,8 @@ short_first κ κs months =
     record {
       opened = s.opened;
       first =
-          called κs g [] short_month (record { answer = Refused 2 1; ledger = g }) [] [] [] (closes_refused g [] (input short_month).lines [] [] 2 1 refl);
+          called κs g [] short_month (record { answer = Err (ShortSlice Held); ledger = g }) [] [] []
+          (closes_refused g [] (input short_month).lines [] [] (ShortSlice Held) refl);
       month = refl;
       lent = refl;
       answer = refl;

@@ -26,20 +26,21 @@ use denote.RattleType.{RattleType}
 use denote.Memory.{mem}
 use denote.Builtin.{u64, i64}
 use denote.Slice.{Room}
-use Rattle.rules.specs.declared.Answer.TheVariants.{Accepted}
-use Rattle.rules.specs.declared.Outcome.{Outcome}
+use Rattle.rules.specs.declared.outcomes.Outcome.{Outcome}
 use Rattle.rules.specs.Verdict.{accepted}
+use Rattle.rules.specs.Answers.{verdict_of}
 use Rattle.rules.specs.Refusals.{opening_refusal}
 use Rattle.rules.specs.Calls.{Opens, Opened as OpenedSo}
 use Rattle.rules.specs.Demand.{Lent}
-use Rattle.rules.specs.Lines.{point_of}
+use Rattle.rules.specs.Lines.{agent_of, user_of, point_of}
 use Rattle.rules.specs.July.{july_line, july_agents, july_users, july_points, lines, points}
+use Rattle.rules.specs.contracts.Agent as A
+use Rattle.rules.specs.contracts.User as U
 use Rattle.rules.specs.contracts.Point as P
-use Rattle.records.proofs.Widths.{agent_width, user_width, Ra, Ru}
 use Rattle.ledger.proofs.open.Symbol as open_code
 use Rattle.ledger.proofs.Demand.{credits_left}
 use Rattle.ledger.proofs.Machine.{OpenRan, open_runs, opened, Caller}
-use Rattle.ledger.proofs.Fitting.{Every, Word, Line, PointFits, Slice, Closing, handed, ClosingFits}
+use Rattle.ledger.proofs.Fitting.{Every, Word, AgentFits, UserFits, PointFits, Slice, Closing, handed, ClosingFits}
 use Rattle.ledger.proofs.Ready.{OpenFrom, open_ready, close_ready}
 
 module _ {M : Type 1} {𝓤 : Ura M} (𝓛 : Logic 𝓤) (𝓜 : Model 𝓤 𝓛.H) (𝓡 : Running 𝓤 𝓛.H 𝓜) where
@@ -47,7 +48,7 @@ module _ {M : Type 1} {𝓤 : Ura M} (𝓛 : Logic 𝓤) (𝓜 : Model 𝓤 𝓛
   pub record OpenedFrom (users agents : ℕ) (held : List ℤ) : Type 1 where
     pub from : OpenFrom 𝓛 𝓜 𝓡 users agents held
     pub ran : OpenRan 𝓛 𝓜 𝓡 from.bound from.memory (emp 𝓤)
-    pub answer : ran.result.answer ≡ Accepted
+    pub answer : verdict_of ran.result.answer ≡ accepted
     -- a ledger of these counts, and a credit of 0 for each user
     pub ledger : ran.result.ledger ≡ record { users = users; agents = agents; month = pos 0 }
     pub credits : credits_left (opened 𝓛 𝓜 𝓡 from.bound from.memory (emp 𝓤) ran answer) ≡ replicate users (pos 0)
@@ -69,7 +70,7 @@ module _ {M : Type 1} {𝓤 : Ura M} (𝓛 : Logic 𝓤) (𝓜 : Model 𝓤 𝓛
       record {
         from = f;
         ran = y;
-        answer = ap (λ (r : Outcome). r.answer) d.outcome;
+        answer = ap (λ (r : Outcome). verdict_of r.answer) d.outcome;
         ledger = ap (λ (r : Outcome). r.ledger) d.outcome ∙ (λ i. record { users = f.users_same i; agents = f.agents_same i; month = pos 0 });
         credits =
             ap (take u) d.credits
@@ -153,6 +154,9 @@ shaped : ℕ → List (List ℕ) → Bool
 shaped w [] = true
 shaped w (r ∷ rs) = (eqb (length r) w && small r) && shaped w rs
 
+abbrev Line : ℕ → List ℤ → Type 0
+Line n l = (length l ≡ n) × Every Word l
+
 lines_fit : (w : ℕ) (rows : List (List ℕ)) → T (shaped w rows) → Every (Line w) (lines rows)
 unfolding shaped
 lines_fit w [] t = tt
@@ -165,6 +169,16 @@ entry : (l : List ℤ) → Every Word l → (i : ℕ) → Word (get_or l i (pos 
 entry [] e i = sfits_lit tt
 entry (x ∷ xs) e zero = e.0
 entry (x ∷ xs) e (suc i) = entry xs e.1 i
+
+agents_fit : (ls : List (List ℤ)) → Every (Line 7) ls → Every AgentFits (map agent_of ls)
+agents_fit [] e = tt
+agents_fit (l ∷ ls) e =
+    let at = entry l e.0.1 in
+    (record { number = at 0; pb = at 1; pv = at 2; afs = at 3; rfs = at 4; pa = at 5; ret = at 6 }, agents_fit ls e.1)
+
+users_fit : (ls : List (List ℤ)) → Every (Line 4) ls → Every UserFits (map user_of ls)
+users_fit [] e = tt
+users_fit (l ∷ ls) e = let at = entry l e.0.1 in (record { number = at 0; kind = at 1; ret = at 2; ong = at 3 }, users_fit ls e.1)
 
 points_fit : (ls : List (List ℤ)) → Every (Line 9) ls → Every PointFits (map point_of ls)
 points_fit [] e = tt
@@ -180,8 +194,8 @@ july =
       ledger = record { users = 2; agents = 2; month = pos 0 };
       held = map pos (0 ∷ 0 ∷ 88 ∷ []);
       line = july_line;
-      agents = lines july_agents;
-      users = lines july_users;
+      agents = map agent_of (lines july_agents);
+      users = map user_of (lines july_users);
       points = points july_points;
       cells = map pos (replicate 7 9);
       work = replicate 32 0;
@@ -194,8 +208,8 @@ july_fits =
       ledger = record { users = Fits-lit tt; agents = Fits-lit tt; month = sfits_lit tt };
       held = record { each_fits = fitting (0 ∷ 0 ∷ 88 ∷ []) tt; room = room i64 3 tt tt };
       line = record { month = sfits_lit tt; ons = sfits_lit tt };
-      agents = record { each_fits = lines_fit agent_width july_agents tt; room = room Ra 2 tt tt };
-      users = record { each_fits = lines_fit user_width july_users tt; room = room Ru 2 tt tt };
+      agents = record { each_fits = agents_fit (lines july_agents) (lines_fit 7 july_agents tt); room = room A.the_row 2 tt tt };
+      users = record { each_fits = users_fit (lines july_users) (lines_fit 4 july_users tt); room = room U.the_row 2 tt tt };
       points = record { each_fits = points_fit (lines july_points) (lines_fit 9 july_points tt); room = room P.the_row 2 tt tt };
       cells = record { each_fits = fitting (replicate 7 9) tt; room = room i64 7 tt tt };
       work = record { each_fits = counts (replicate 32 0) tt; room = room u64 32 tt tt };

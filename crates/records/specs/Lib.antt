@@ -1,2 +1,2 @@
--- `Taking` is what `taken` promises of the points that it takes out.
-pub mod Taking
+-- `Columns`: a line's values in the order of its columns, where `rules` has no definition of it.
+pub mod Columns

@@ -1,60 +1,83 @@
-// A point as its record and as its line, and the points of a month taken out of a lent slice of records (paper 01, "Where to use each
-// form"): only `taken` indexes such a slice.
+// The lines of a month file as records: where a line's values, in the order of its columns, become its fields.
 #![tactic(auto)]
 
-ghost use Rattle.std.specs.Prelude.{◌≡◌, min};
-ghost use Rattle.rules.specs.Lines.{point_of};
-ghost use Rattle.records.specs.Taking.{line_of, no_lines, Takes};
+ghost use Rattle.std.specs.Prelude.{◌≡◌, List, ℤ};
+ghost use Rattle.rules.specs.Lines.{agent_of, user_of, point_of};
+ghost use Rattle.records.specs.Columns.{month_line_of};
 
-use rules::{Point, PointLine, columns};
+use rules::{Agent, MonthLine, Point, User};
 
-// The record of a line.
-pub fn point_of(line: PointLine) -> Point
-    ensures { result ≡ point_of line }
-{
-    Point {
-        user: line[columns::POINT_USER],
-        tp: line[columns::TP],
-        tf: line[columns::TF],
-        dp: line[columns::DP],
-        df: line[columns::DF],
-        mp: line[columns::MP],
-        mf: line[columns::MF],
-        vp: line[columns::VP],
-        vf: line[columns::VF],
+// A line of N values.
+pub trait Line<const N: usize>: Copy {
+    ghost of: { List ℤ → Self };
+
+    fn of(values: [i64; N]) -> Self
+        ensures { result ≡ of values.entry };
+}
+
+impl Line<2> for MonthLine {
+    ghost of = { month_line_of };
+
+    fn of(values: [i64; 2]) -> Self
+        ensures { result ≡ month_line_of values }
+    {
+        let [month, ons] = values;
+        MonthLine { month, ons }
     }
 }
 
-// The line of a record.
-fn line_of(p: Point) -> PointLine
-    ensures { result ≡ line_of p }
-{
-    [p.user, p.tp, p.tf, p.dp, p.df, p.mp, p.mf, p.vp, p.vf]
-}
+impl Line<7> for Agent {
+    ghost of = { agent_of };
 
-// How many points are looked at: a month of more is refused by its count.
-pub fn taken_count(points: usize) -> usize
-    ensures { result ≡ min 1024 points }
-{
-    if points < 1024 { points } else { 1024 }
-}
-
-fn no_lines() -> [PointLine; 1024]
-    ensures { result ≡ no_lines }
-{
-    [[0i64; 9]; 1024]
-}
-
-// The first 1,024 points as lines, and lines of zeros after them.
-pub fn taken(points: &[Point]) -> [PointLine; 1024]
-    ensures { Takes points.now result }
-{
-    let n = taken_count(points.len());
-    let mut lines = no_lines();
-    let mut i: usize = 0;
-    while i < n {
-        lines[i] = line_of(points[i]);
-        i += 1;
+    fn of(values: [i64; 7]) -> Self
+        ensures { result ≡ agent_of values }
+    {
+        let [number, pb, pv, afs, rfs, pa, ret] = values;
+        Agent {
+            number,
+            pb,
+            pv,
+            afs,
+            rfs,
+            pa,
+            ret,
+        }
     }
-    lines
+}
+
+impl Line<4> for User {
+    ghost of = { user_of };
+
+    fn of(values: [i64; 4]) -> Self
+        ensures { result ≡ user_of values }
+    {
+        let [number, kind, ret, ong] = values;
+        User {
+            number,
+            kind,
+            ret,
+            ong,
+        }
+    }
+}
+
+impl Line<9> for Point {
+    ghost of = { point_of };
+
+    fn of(values: [i64; 9]) -> Self
+        ensures { result ≡ point_of values }
+    {
+        let [user, tp, tf, dp, df, mp, mf, vp, vf] = values;
+        Point {
+            user,
+            tp,
+            tf,
+            dp,
+            df,
+            mp,
+            mf,
+            vp,
+            vf,
+        }
+    }
 }

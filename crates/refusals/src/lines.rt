@@ -1,12 +1,13 @@
 // Held credits, and the ons, agent and user lines: refusals 4 and 5.
-ghost use Rattle.std.specs.Prelude.{◌≡◌, map, pos};
-ghost use Rattle.ints.specs.Range.{eq_z};
-ghost use Rattle.rules.specs.Verdict.{each_line};
-ghost use Rattle.rules.specs.Lines.{agent_of, user_of, bad_amount, bad_correction, bad_amounts, bad_agent, bad_user};
+ghost use Rattle.std.specs.Prelude.{◌≡◌, ℕ, pos};
+ghost use Rattle.ints.specs.Range.{outside, eq_z};
+ghost use Rattle.rules.specs.Verdict.{Verdict, each_line};
+ghost use Rattle.rules.specs.Lines.{bad_amounts, bad_agent, bad_user};
 ghost use Rattle.rules.specs.Refusals.{credit_test, agent_test, user_test, lines_before_points};
-ghost use Rattle.rules.specs.Calls.{verdict_of};
+ghost use Rattle.rules.specs.Answers.{verdict_of};
 
-use rules::{AgentLine, Answer, MonthLine, UserLine, columns};
+use ints::outside;
+use rules::{Agent, Kind, MonthLine, Refusal, User};
 
 // 10^11, the limit of amounts, and either way of corrections.
 const AMOUNT: i64 = 100_000_000_000;
@@ -14,110 +15,107 @@ const AMOUNT: i64 = 100_000_000_000;
 // 10^17, the limit of held credits.
 const CREDIT: i64 = 100_000_000_000_000_000;
 
-fn bad_amount(x: i64) -> bool
-    ensures { result ≡ bad_amount x }
-{
-    ints::outside(0, AMOUNT, x)
-}
-
-fn bad_correction(x: i64) -> bool
-    ensures { result ≡ bad_correction x }
-{
-    ints::outside(-AMOUNT, AMOUNT, x)
-}
-
-// Whether a line's number is its position; k may pass what an i64 holds, so x is compared by its size.
+// Whether a line's number is its position; k may pass what an i64 holds.
 fn is_number(x: i64, k: u64) -> bool
     ensures { result ≡ eq_z x (pos k) }
 {
-    if x < 0 {
-        return false;
-    }
-    x as u64 == k
-}
-
-// 4: the first held credit below 0 or above 10^17.
-pub fn credits_verdict(credits: &[i64]) -> Answer
-    ensures { verdict_of result ≡ each_line credit_test 1 credits.now }
-{
-    let mut i: usize = 0;
-    while i < credits.len() {
-        if ints::outside(0, CREDIT, credits[i]) {
-            return Answer::Refused(4, i as u64 + 1);
-        }
-        i += 1;
-    }
-    Answer::Accepted
+    u64::try_from(x) == Ok(k)
 }
 
 // An agent's four amounts.
 fn bad_amounts(pb: i64, pv: i64, afs: i64, rfs: i64) -> bool
     ensures { result ≡ bad_amounts pb pv afs rfs }
 {
-    bad_amount(pb) | bad_amount(pv) | bad_amount(afs) | bad_amount(rfs)
+    outside(0, AMOUNT, pb)
+        || outside(0, AMOUNT, pv)
+        || outside(0, AMOUNT, afs)
+        || outside(0, AMOUNT, rfs)
 }
 
 // 5 of the agent line at position k.
-fn bad_agent(k: u64, line: AgentLine) -> bool
-    ensures { result ≡ bad_agent k (agent_of line) }
+#[tactic(auto, unfolding(rules::specs::Lines::bad_agent))]
+fn bad_agent(k: u64, agent: &Agent) -> bool
+    ensures { result ≡ bad_agent k agent.now }
 {
-    !is_number(line[columns::AGENT_NUMBER], k)
-        | bad_amounts(
-            line[columns::PB],
-            line[columns::PV],
-            line[columns::AFS],
-            line[columns::RFS],
-        )
-        | bad_correction(line[columns::PA])
-        | bad_correction(line[columns::AGENT_RET])
+    !is_number(agent.number, k)
+        || bad_amounts(agent.pb, agent.pv, agent.afs, agent.rfs)
+        || outside(-AMOUNT, AMOUNT, agent.pa)
+        || outside(-AMOUNT, AMOUNT, agent.ret)
 }
 
-fn agents_verdict(agents: &[AgentLine]) -> Answer
-    ensures { verdict_of result ≡ each_line agent_test 1 (map agent_of agents.now) }
+#[tactic(auto, unfolding(ints::specs::Range::outside))]
+fn bad_kind(x: i64) -> bool
+    ensures { result ≡ outside (pos 1) (pos 3) x }
 {
-    let mut i: usize = 0;
-    while i < agents.len() {
-        if bad_agent(i as u64 + 1, agents[i]) {
-            return Answer::Refused(5, i as u64 + 1);
-        }
-        i += 1;
-    }
-    Answer::Accepted
+    Kind::try_from(x).is_err()
 }
 
 // 5 of the user line at position k.
-fn bad_user(k: u64, line: UserLine) -> bool
-    ensures { result ≡ bad_user k (user_of line) }
+#[tactic(auto, unfolding(rules::specs::Lines::bad_user))]
+fn bad_user(k: u64, user: &User) -> bool
+    ensures { result ≡ bad_user k user.now }
 {
-    !is_number(line[columns::USER_NUMBER], k)
-        | ints::outside(1, 3, line[columns::KIND])
-        | bad_correction(line[columns::USER_RET])
-        | bad_amount(line[columns::ONG])
+    !is_number(user.number, k)
+        || bad_kind(user.kind)
+        || outside(-AMOUNT, AMOUNT, user.ret)
+        || outside(0, AMOUNT, user.ong)
 }
 
-fn users_verdict(users: &[UserLine]) -> Answer
-    ensures { verdict_of result ≡ each_line user_test 1 (map user_of users.now) }
+// Each line's test in turn, which is given the line's position from 1: the first that refuses.
+fn each_line<T, F: Fn(u64, &T) -> Result<(), Refusal>>(lines: &[T], test: F) -> Result<(), Refusal>
+    ghost verdict: { ℕ → T → Verdict }
+    requires callable { F.IsAlwaysCallable test }
+    requires tells { (k : ℕ) (x : _) (r : _) → F.post test k x r → verdict_of r ≡ verdict k x.now }
+    ensures { verdict_of result ≡ each_line verdict 1 lines.now }
 {
-    let mut i: usize = 0;
-    while i < users.len() {
-        if bad_user(i as u64 + 1, users[i]) {
-            return Answer::Refused(5, i as u64 + 1);
-        }
-        i += 1;
+    for (i, line) in lines.iter().enumerate() {
+        test(i as u64 + 1, line)?;
     }
-    Answer::Accepted
+    Ok(())
+}
+
+fn credit_verdict(k: u64, credit: &i64) -> Result<(), Refusal>
+    ensures { verdict_of result ≡ credit_test k credit.now }
+{
+    if outside(0, CREDIT, *credit) {
+        return Err(Refusal::BadCredit(k));
+    }
+    Ok(())
+}
+
+// 4: the first held credit below 0 or above 10^17.
+pub fn credits_verdict(credits: &[i64]) -> Result<(), Refusal>
+    ensures { verdict_of result ≡ each_line credit_test 1 credits.now }
+{
+    each_line(credits, credit_verdict)
+}
+
+fn agent_verdict(k: u64, agent: &Agent) -> Result<(), Refusal>
+    ensures { verdict_of result ≡ agent_test k agent.now }
+{
+    if bad_agent(k, agent) {
+        return Err(Refusal::BadValue(k));
+    }
+    Ok(())
+}
+
+fn user_verdict(k: u64, user: &User) -> Result<(), Refusal>
+    ensures { verdict_of result ≡ user_test k user.now }
+{
+    if bad_user(k, user) {
+        return Err(Refusal::BadValue(k));
+    }
+    Ok(())
 }
 
 // 5 of the ons, agent and user lines, in this order.
-pub fn lines_before_points(line: MonthLine, agents: &[AgentLine], users: &[UserLine]) -> Answer
-    ensures { verdict_of result ≡ lines_before_points line (map agent_of agents.now) (map user_of users.now) }
+#[tactic(auto, unfolding(rules::specs::Refusals::lines_before_points))]
+pub fn lines_before_points(line: MonthLine, agents: &[Agent], users: &[User]) -> Result<(), Refusal>
+    ensures { verdict_of result ≡ lines_before_points line agents.now users.now }
 {
-    if bad_amount(line.ons) {
-        return Answer::Refused(5, 0);
+    if outside(0, AMOUNT, line.ons) {
+        return Err(Refusal::BadValue(0));
     }
-    let first = agents_verdict(agents);
-    match first {
-        Answer::Refused(number, place) => Answer::Refused(number, place),
-        Answer::Accepted => users_verdict(users),
-    }
+    each_line(agents, agent_verdict)?;
+    each_line(users, user_verdict)
 }

@@ -1,74 +1,78 @@
 // Point lines: refusals 5, 6 and 7, in this order on each line.
-ghost use Rattle.std.specs.Prelude.{◌≡◌, map};
-ghost use Rattle.rules.specs.Lines.{user_of, kind_of, bad_tariff, bad_discount, bad_power, bad_band, bad_point, unfit_point};
+ghost use Rattle.std.specs.Prelude.{◌≡◌, true, false, MatchOption, ℤ, pos, length};
+ghost use Rattle.ints.specs.Range.{outside};
+ghost use Rattle.rules.specs.Lines.{kind_of, bad_band, bad_point, unfit_point};
+ghost use Rattle.rules.specs.Kinds.{IsKind};
 ghost use Rattle.rules.specs.Refusals.{point_test};
-ghost use Rattle.rules.specs.Calls.{verdict_of};
+ghost use Rattle.rules.specs.Answers.{verdict_of};
 
-use rules::{Answer, Point, UserLine, columns};
+use ints::outside;
+use rules::{Kind, Point, Refusal, User};
 
-fn bad_tariff(x: i64) -> bool
-    ensures { result ≡ bad_tariff x }
-{
-    ints::outside(0, 100_000, x)
-}
+// Of a tariff, of a discount in percent, of a power.
+const TARIFF: i64 = 100_000;
 
-fn bad_discount(x: i64) -> bool
-    ensures { result ≡ bad_discount x }
-{
-    ints::outside(0, 100, x)
-}
+const DISCOUNT: i64 = 100;
 
-fn bad_power(x: i64) -> bool
-    ensures { result ≡ bad_power x }
-{
-    ints::outside(0, 20_000_000, x)
-}
+const POWER: i64 = 20_000_000;
 
 // A band of a point.
 fn bad_band(tariff: i64, discount: i64, contracted: i64, verified: i64) -> bool
     ensures { result ≡ bad_band tariff discount contracted verified }
 {
-    bad_tariff(tariff) | bad_discount(discount) | bad_power(contracted) | bad_power(verified)
+    outside(0, TARIFF, tariff)
+        || outside(0, DISCOUNT, discount)
+        || outside(0, POWER, contracted)
+        || outside(0, POWER, verified)
 }
 
 // 5 of a point line.
+#[tactic(auto, unfolding(rules::specs::Lines::bad_point))]
 fn bad_point(p: Point) -> bool
     ensures { result ≡ bad_point p }
 {
-    bad_band(p.tp, p.dp, p.mp, p.vp) | bad_band(p.tf, p.df, p.mf, p.vf)
+    bad_band(p.tp, p.dp, p.mp, p.vp) || bad_band(p.tf, p.df, p.mf, p.vf)
 }
 
 // 7 of a point line whose user has this kind: a generator's f column or a distributor's discount that is not 0.
-fn unfit_point(kind: i64, p: Point) -> bool
-    ensures { result ≡ unfit_point kind p }
+#[tactic(auto, using(crate::proofs::Laws::fits_no_kind), unfolding(rules::specs::Lines::unfit_point))]
+fn unfit_point(kind: Option<Kind>, p: Point) -> bool
+    ensures { (number : ℤ) → IsKind kind number → result ≡ unfit_point number p }
 {
-    (kind == 3) & ((p.tf != 0) | (p.df != 0) | (p.mf != 0) | (p.vf != 0))
-        | (kind == 1) & ((p.dp != 0) | (p.df != 0))
+    match kind {
+        Some(Kind::Generator) => p.tf != 0 || p.df != 0 || p.mf != 0 || p.vf != 0,
+        Some(Kind::Distributor) => p.dp != 0 || p.df != 0,
+        Some(Kind::Consumer) | None => false,
+    }
 }
 
-// The kind of the user with this number, 0 where there is none.
-pub fn kind_of(users: &[UserLine], user: i64) -> i64
-    ensures { result ≡ kind_of (map user_of users.now) user }
+// The line of the user with this number.
+#[tactic(auto, unfolding(ints::specs::Range::outside))]
+fn line_of(users: &[User], user: i64) -> Option<&User>
+    ensures { MatchOption result (outside (pos 1) (pos (length users.now)) user ≡ true)
+        (λ line. (outside (pos 1) (pos (length users.now)) user ≡ false) × (line.now.kind ≡ kind_of users.now user)) }
 {
-    if ints::outside(1, users.len() as i64, user) {
-        return 0;
-    }
-    let line = users[(user - 1) as usize];
-    line[columns::KIND]
+    let i = usize::try_from(user.checked_sub(1)?).ok()?;
+    users.get(i)
+}
+
+// The kind of the user with this number; none where there is no such user, or its line has no kind's number.
+pub fn kind_of(users: &[User], user: i64) -> Option<Kind>
+    ensures { IsKind result (kind_of users.now user) }
+{
+    Kind::try_from(line_of(users, user)?.kind).ok()
 }
 
 // The point line at position k: 5, then 6, then 7.
-pub fn point_verdict(users: &[UserLine], k: u64, p: Point) -> Answer
-    ensures { verdict_of result ≡ point_test (map user_of users.now) k p }
+pub fn point_verdict(users: &[User], k: u64, p: Point) -> Result<(), Refusal>
+    ensures { verdict_of result ≡ point_test users.now k p }
 {
     if bad_point(p) {
-        return Answer::Refused(5, k);
+        return Err(Refusal::BadValue(k));
     }
-    if ints::outside(1, users.len() as i64, p.user) {
-        return Answer::Refused(6, k);
+    let user = line_of(users, p.user).ok_or(Refusal::NoSuchUser(k))?;
+    if unfit_point(Kind::try_from(user.kind).ok(), p) {
+        return Err(Refusal::UnfitPoint(k));
     }
-    if unfit_point(kind_of(users, p.user), p) {
-        return Answer::Refused(7, k);
-    }
-    Answer::Accepted
+    Ok(())
 }

@@ -14,7 +14,8 @@ use Rattle.ints.specs.Order.{≤_trans, add_mono}
 use Rattle.ints.specs.Ring.{add_swap}
 use Rattle.ints.specs.Range.{eq_z}
 use Rattle.rules.specs.declared.Point.{Point}
-use Rattle.rules.specs.Lines.{User, distributor, consumer, point_of}
+use Rattle.rules.specs.declared.User.{User}
+use Rattle.rules.specs.Lines.{distributor, consumer, point_of}
 use Rattle.rules.specs.Charges.{half_up, or_zero, use_charge, allowance, excess, overrun, of_user, EUST, overruns}
 use Rattle.rules.specs.Bands.{use_once, overrun_once, Apart, points_of}
 

@@ -8,7 +8,8 @@ use lib.IntN.{ℤ, pos, ◌+ℤ◌}
 use Rattle.ints.specs.Range.{eq_z}
 use Rattle.rules.specs.declared.Point.{Point}
 use Rattle.rules.specs.Lists.{each_from}
-use Rattle.rules.specs.Lines.{User, Lines}
+use Rattle.rules.specs.declared.User.{User}
+use Rattle.rules.specs.Lines.{Lines}
 use Rattle.rules.specs.State.{State}
 use Rattle.rules.specs.Charges.{use_charge, overrun, of_user, EUST, EUSTs, overrun_sums, VMEs, pv_total, CPVs, ns, VDs, new_credits}
 use Rattle.rules.specs.Credits.{SMSE, VCs}

@@ -11,7 +11,8 @@ use Rattle.ints.specs.Range.{Within}
 use Rattle.ints.specs.Sums.{sum_ℤ, Small}
 use Rattle.rules.specs.Lists.{get_d_map}
 use Rattle.rules.specs.Most.{most_amount, most_direct}
-use Rattle.rules.specs.Lines.{User, Lines, user_of}
+use Rattle.rules.specs.declared.User.{User}
+use Rattle.rules.specs.Lines.{Lines, user_of}
 use Rattle.rules.specs.State.{State}
 use Rattle.rules.specs.Direct.{ongs}
 use Rattle.rules.proofs.Passed.{Passed}

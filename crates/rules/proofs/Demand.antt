@@ -8,9 +8,10 @@ use native.Mathlib.Omega.{arith}
 use lib.IntN.{ℤ, pos, ◌+ℤ◌, +ℤ_idr}
 use lib.ListN.{take, drop, replicate, length-replicate, get_or-replicate}
 use lib.Seq.{take_all, take_at, drop_at}
-use Rattle.rules.specs.declared.Answer.TheVariants.{Accepted}
-use Rattle.rules.specs.declared.Outcome.{Outcome}
-use Rattle.rules.specs.Calls.{verdict_of, Opens}
+use Rattle.rules.specs.declared.outcomes.Outcome.{Outcome}
+use Rattle.rules.specs.Verdict.{accepted}
+use Rattle.rules.specs.Answers.{verdict_of}
+use Rattle.rules.specs.Calls.{Opens}
 use Rattle.rules.specs.Tally.{opened}
 use Rattle.rules.specs.Demand.{Call, Chain, AllPromised, billed_to_user, Demand3}
 use Rattle.rules.proofs.Promise.{opens_verdict}
@@ -21,10 +22,10 @@ use Rattle.rules.proofs.Follow.{Follows, follows}
 pub opened_so :
     (users agents : ℕ) (held : List ℤ) (r : Outcome) (held' : List ℤ)
     → Opens users agents held r held'
-    → r.answer ≡ Accepted
+    → verdict_of r.answer ≡ accepted
     → Agree users agents (opened users agents) r.ledger (take users held') × (drop users held' ≡ drop users held)
 opened_so users agents held r held' o e =
-    let d = o.where_accepted (sym (opens_verdict users agents held o) ∙ ap verdict_of e) in
+    let d = o.where_accepted (sym (opens_verdict users agents held o) ∙ e) in
     let long = length-replicate users (pos 0) in
     let zeros : take users held' ≡ replicate users (pos 0) = ap (take users) d.credits ∙ take_at (replicate users (pos 0)) (drop users held) users long in (
       rw (d.outcome, zeros)
@@ -41,7 +42,7 @@ opened_so users agents held r held' o e =
 pub demand_3 :
     (users agents : ℕ) (held : List ℤ) (r : Outcome) (held' : List ℤ)
     → Opens users agents held r held'
-    → r.answer ≡ Accepted
+    → verdict_of r.answer ≡ accepted
     → (cs : List Call)
     → Chain r.ledger (take users held') cs
     → AllPromised cs

@@ -7,30 +7,30 @@ use native.Mathlib.Omega.{arith}
 use lib.IntN.{ℤ, pos}
 use lib.ListN.{length, take, drop, replicate, length-replicate, length-append, length-drop, take-append-drop}
 use lib.Seq.{take_at, drop_at, length-take-le}
-use Rattle.rules.specs.declared.Answer.{Answer}
-use Rattle.rules.specs.declared.Answer.TheVariants.{Accepted, Refused}
-use Rattle.rules.specs.declared.Outcome.{Outcome}
-use Rattle.rules.specs.Verdict.{Verdict, accepted}
+use Rattle.std.specs.Prelude.{Result}
+use Rattle.rules.specs.declared.outcomes.Outcome.{Outcome}
+use Rattle.rules.specs.declared.outcomes.Refusal.{Refusal}
+use Rattle.rules.specs.Verdict.{Verdict, accepted, refused}
 use Rattle.rules.specs.Charges.{VDs, new_credits}
 use Rattle.rules.specs.Credits.{VCs}
 use Rattle.rules.specs.Refusals.{Lengths, cells_needed, short_slices, refusal, opening_refusal}
 use Rattle.rules.specs.State.{State}
 use Rattle.rules.specs.Limits.{Limit}
-use Rattle.rules.specs.Calls.{verdict_of, Opened, NotOpened, Opens, state_of, lengths_of}
+use Rattle.rules.specs.Answers.{verdict_of}
+use Rattle.rules.specs.Calls.{Opened, NotOpened, Opens, state_of, lengths_of}
 use Rattle.rules.specs.Demand.{Call, Promised}
 use Rattle.rules.specs.Demand1.{AnsweredBy, Demand1Opening, Advanced, Demand1Closing}
 use Rattle.rules.proofs.Passed.{slices, slices_accepted, passed}
 use Rattle.rules.proofs.Sizes.{length_VDs, length_VCs, length_new_credits}
-use Rattle.rules.proofs.Answers.{verdict_accepted, verdict_refused}
 use Rattle.rules.proofs.Promise.{answers, opens_verdict}
 use Rattle.rules.proofs.Limits.{Agrees}
 use Rattle.rules.proofs.LimitsMonth.{opening_agrees, closing_agrees}
 
 -- ---- the answer
-pub answered : {t : Limit} {v : Verdict} {a : Answer} → Agrees t v → verdict_of a ≡ v → AnsweredBy t a
-answered {t} {v} {a} g e = record {
-  accepted = (λ k. verdict_accepted a (e ∙ g.accepted.0 k), λ x. g.accepted.1 (sym e ∙ ap verdict_of x));
-  refused = λ n p. (λ b. verdict_refused a (e ∙ (g.refused n p).0 b), λ x. (g.refused n p).1 (sym e ∙ ap verdict_of x));
+pub answered : {t : Limit} {v : Verdict} {T : Type 0} {a : Result T Refusal} → Agrees t v → verdict_of a ≡ v → AnsweredBy t a
+answered g e = record {
+  done = (λ k. e ∙ g.accepted.0 k, λ x. g.accepted.1 (sym e ∙ x));
+  back = λ n p. (λ b. e ∙ (g.refused n p).0 b, λ x. (g.refused n p).1 (sym e ∙ x));
 }
 
 -- ---- opening
@@ -39,7 +39,7 @@ pub demand_1_opening :
 demand_1_opening users agents held r held' o =
     record {
       answer = answered (opening_agrees users agents (length held)) e;
-      no_ledger = λ n p a. ap (λ (x : Outcome). x.ledger) (back n p a).outcome;
+      no_ledger = λ n p a. (back n p a).ledger;
       unchanged = λ n p a. (back n p a).credits;
       ledger = λ a. ap (λ (x : Outcome). x.ledger) (done a).outcome;
       credits = λ a. rw (done a).credits (take_at (replicate users (pos 0)) (drop users held) users long);
@@ -49,11 +49,11 @@ demand_1_opening users agents held r held' o =
     e : verdict_of r.answer ≡ opening_refusal users agents (length held)
     e = opens_verdict users agents held o
 
-    done : r.answer ≡ Accepted → Opened users agents held r held'
-    done a = o.where_accepted (sym e ∙ ap verdict_of a)
+    done : verdict_of r.answer ≡ accepted → Opened users agents held r held'
+    done a = o.where_accepted (sym e ∙ a)
 
-    back : (n p : ℕ) → r.answer ≡ Refused n p → NotOpened held r held' n p
-    back n p a = o.where_refused n p (sym e ∙ ap verdict_of a)
+    back : (n p : ℕ) → verdict_of r.answer ≡ refused n p → NotOpened held r held' n p
+    back n p a = o.where_refused n p (sym e ∙ a)
 
     long : length (replicate users (pos 0)) ≡ users
     long = length-replicate users (pos 0)
@@ -67,9 +67,9 @@ pub demand_1_closing : (c : Call) → Promised c → Demand1Closing c
 demand_1_closing c o = record {
   answer = answered (closing_agrees s n c.lines) e;
   unchanged = λ n p a.
-      let b = o.where_refused n p (sym e ∙ ap verdict_of a) in
-      record { ledger = ap (λ (x : Outcome). x.ledger) b.outcome; held = b.credits; cells = b.table; work = b.scratch };
-  advanced = λ a. advanced (sym e ∙ ap verdict_of a);
+      let b = o.where_refused n p (sym e ∙ a) in
+      record { ledger = b.ledger; held = b.credits; cells = b.table; work = b.scratch };
+  advanced = λ a. advanced (sym e ∙ a);
 }
   where
     s : State
@@ -79,7 +79,7 @@ demand_1_closing c o = record {
     n = lengths_of c.held c.cells c.work
 
     e : verdict_of c.outcome.answer ≡ refusal s (short_slices s n) c.lines
-    e = answers (λ d. ap (λ (x : Outcome). x.answer) d.outcome) (λ n p b. ap (λ (x : Outcome). x.answer) b.outcome) o
+    e = answers c.outcome.answer (λ d. ap (λ (x : Outcome). verdict_of x.answer) d.outcome) (λ n p b. b.answer) o
 
     advanced : refusal s (short_slices s n) c.lines ≡ accepted → Advanced c
     advanced a =

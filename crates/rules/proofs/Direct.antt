@@ -12,7 +12,8 @@ use lib.Seq.{length-take-le, take_all, get_or_at, get_or-take, get_or-drop, get_
 use borrow.Author.Tests.{ltb-true, ltb-false, eq-eqb, ne_eqb}
 use Rattle.ints.specs.Sums.{sum_ℤ, Σ<, Σ_zero, Σ_ext, Σ_list}
 use Rattle.rules.specs.Lists.{side_by_side, length_side_by_side, get_or_side_by_side}
-use Rattle.rules.specs.Lines.{User, Lines}
+use Rattle.rules.specs.declared.User.{User}
+use Rattle.rules.specs.Lines.{Lines}
 use Rattle.rules.specs.State.{State}
 use Rattle.rules.specs.Charges.{VDs}
 use Rattle.rules.specs.Credits.{agent_VCs, VCsFrom, VCs}

@@ -10,7 +10,9 @@ use Rattle.ints.specs.Range.{outside, Within, or_false, outside_false, within_fa
 use Rattle.rules.specs.declared.Point.{Point}
 use Rattle.rules.specs.Verdict.{accepted}
 use Rattle.rules.specs.Calendar.{month_of_year, impossible_month}
-use Rattle.rules.specs.Lines.{Agent, User, kind_of, bad_amounts, bad_band, bad_agent, bad_user, bad_point, unfit_point}
+use Rattle.rules.specs.declared.Agent.{Agent}
+use Rattle.rules.specs.declared.User.{User}
+use Rattle.rules.specs.Lines.{kind_of, bad_amounts, bad_band, bad_agent, bad_user, bad_point, unfit_point}
 use Rattle.rules.specs.Refusals.{point_test}
 use Rattle.rules.specs.Ranges.{Amount, Tariff, Discount, Power}
 use Rattle.rules.specs.Limits.{AgentFits, UserFits, PointFits}

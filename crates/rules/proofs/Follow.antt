@@ -10,7 +10,7 @@ use Rattle.rules.specs.declared.Ledger.{Ledger}
 use Rattle.rules.specs.Verdict.{Verdict}
 use Rattle.rules.specs.Table.{cell_at}
 use Rattle.rules.specs.State.{State}
-use Rattle.rules.specs.Calls.{verdict_of}
+use Rattle.rules.specs.Answers.{verdict_of}
 use Rattle.rules.specs.Tally.{judged, next, after, verdicts, counted, added, charges_less_compensation, payee_credit}
 use Rattle.rules.specs.Demand.{Call, Chain, AllPromised, left_in, fed, last_ledger, last_credits, AllBeyond, billed, billed_to_user, billed_by_payee, AllNear}
 use Rattle.rules.proofs.Lending.{kept}

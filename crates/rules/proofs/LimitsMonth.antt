@@ -14,7 +14,8 @@ use Rattle.ints.specs.Range.{eq_z, eq_z_false, eq_z_not}
 use Rattle.ints.specs.Sums.{sum_ℤ, sum_nonneg}
 use Rattle.rules.specs.Verdict.{Verdict, when, ◌then◌, each_line}
 use Rattle.rules.specs.Lists.{get_d_map}
-use Rattle.rules.specs.Lines.{Agent, Lines, agent_of, point_of, bad_amount}
+use Rattle.rules.specs.declared.Agent.{Agent}
+use Rattle.rules.specs.Lines.{Lines, agent_of, point_of, bad_amount}
 use Rattle.rules.specs.State.{State}
 use Rattle.rules.specs.Charges.{use_charge, pv_total, EUSTs, ns, VDs}
 use Rattle.rules.specs.Credits.{pbs}

@@ -15,7 +15,9 @@ use Rattle.ints.specs.Bridge.{za, le_z_false, lt_out}
 use Rattle.ints.specs.Range.{Within, outside, or_false, outside_false, within_false, eq_z, eq_z_true, eq_z_refl}
 use Rattle.rules.specs.declared.Point.{Point}
 use Rattle.rules.specs.Calendar.{impossible_month}
-use Rattle.rules.specs.Lines.{Agent, User, Lines, generator, distributor, non_zero, bad_agent, bad_user, bad_point, unfit_point}
+use Rattle.rules.specs.declared.Agent.{Agent}
+use Rattle.rules.specs.declared.User.{User}
+use Rattle.rules.specs.Lines.{Lines, generator, distributor, non_zero, bad_agent, bad_user, bad_point, unfit_point}
 use Rattle.rules.specs.State.{State}
 use Rattle.rules.specs.Refusals.{Lengths, bad_users, bad_agents, bad_counts, short_slices, bad_month, credit_test, agent_test, user_test, point_test}
 use Rattle.rules.specs.Limits.{Month, AgentFits, UserFits, PointFits, KindFits, CountsFit}

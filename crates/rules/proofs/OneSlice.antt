@@ -8,9 +8,10 @@ use lib.IntN.{ℤ}
 use lib.ListN.{length, take, drop, length-take}
 use lib.Seq.{take_all, length-take-le}
 use Rattle.rules.specs.declared.Ledger.{Ledger}
-use Rattle.rules.specs.declared.Answer.TheVariants.{Accepted}
-use Rattle.rules.specs.declared.Outcome.{Outcome}
+use Rattle.rules.specs.declared.outcomes.Outcome.{Outcome}
 use Rattle.rules.specs.State.{State}
+use Rattle.rules.specs.Verdict.{accepted}
+use Rattle.rules.specs.Answers.{verdict_of}
 use Rattle.rules.specs.Calls.{Opens}
 use Rattle.rules.specs.Tally.{opened}
 use Rattle.rules.specs.Demand.{Call, Chain, AllPromised, left_in, last_ledger, last_credits, AllBeyond, Demand3}
@@ -62,7 +63,7 @@ beyond_last users g held (c ∷ cs) s b = beyond_last users c.outcome.ledger c.h
 pub demand_3_same_slice :
     (users agents : ℕ) (held : List ℤ) (r : Outcome) (held' : List ℤ)
     → Opens users agents held r held'
-    → r.answer ≡ Accepted
+    → verdict_of r.answer ≡ accepted
     → (cs : List Call)
     → SameSlice r.ledger held' cs
     → AllPromised cs

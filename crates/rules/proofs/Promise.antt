@@ -5,16 +5,18 @@ use mathlib.Core.List.{List, ◌++◌}
 use lib.IntN.{ℤ, pos}
 use lib.ListN.{length, drop, replicate}
 use lib.Seq.{take_at, drop_at}
-use Rattle.rules.specs.declared.Answer.{Answer}
-use Rattle.rules.specs.declared.Answer.TheVariants.{Accepted, Refused}
+use Rattle.std.specs.Prelude.{Result, Ok, Err}
 use Rattle.rules.specs.declared.Ledger.{Ledger}
-use Rattle.rules.specs.declared.Outcome.{Outcome}
+use Rattle.rules.specs.declared.outcomes.Outcome.{Outcome}
+use Rattle.rules.specs.declared.outcomes.Refusal.{Refusal}
 use Rattle.rules.specs.Verdict.{Verdict, accepted, refused, ByVerdict}
 use Rattle.rules.specs.Lines.{Lines}
 use Rattle.rules.specs.Charges.{new_credits}
 use Rattle.rules.specs.Direct.{MonthTable}
 use Rattle.rules.specs.Refusals.{cells_needed, opening_refusal}
-use Rattle.rules.specs.Calls.{verdict_of, empty_ledger, Opens, state_of, closing_refusal, Closes}
+use Rattle.rules.specs.Answers.{refused_by}
+use Rattle.rules.specs.Answers.{verdict_of}
+use Rattle.rules.specs.Calls.{empty_ledger, Opens, state_of, closing_refusal, Closes}
 use Rattle.rules.proofs.Tests.{refused_not_accepted}
 
 module _ {v : Verdict} {done : Type 0} {back : ℕ → ℕ → Type 0} where
@@ -22,12 +24,17 @@ module _ {v : Verdict} {done : Type 0} {back : ℕ → ℕ → Type 0} where
   by_accepted e d = record { where_accepted = λ _. d; where_refused = λ n p r. absurd (refused_not_accepted (sym r ∙ e)) }
 
   -- the answer tells the verdict
-  pub answers : {a : Answer} → (done → a ≡ Accepted) → ((n p : ℕ) → back n p → a ≡ Refused n p) → ByVerdict v done back → verdict_of a ≡ v
-  answers {a} d b c = go v refl
+  pub answers :
+      {T : Type 0} (a : Result T Refusal)
+      → (done → verdict_of a ≡ accepted)
+      → ((n p : ℕ) → back n p → verdict_of a ≡ refused n p)
+      → ByVerdict v done back
+      → verdict_of a ≡ v
+  answers a d b c = go v refl
     where
       go : (w : Verdict) → v ≡ w → verdict_of a ≡ v
-      go accepted e = ap verdict_of (d (c.where_accepted e)) ∙ sym e
-      go (refused n p) e = ap verdict_of (b n p (c.where_refused n p e)) ∙ sym e
+      go accepted e = d (c.where_accepted e) ∙ sym e
+      go (refused n p) e = b n p (c.where_refused n p e) ∙ sym e
 
 pub by_refused : {v : Verdict} {done : Type 0} {back : ℕ → ℕ → Type 0} {n p : ℕ} → v ≡ refused n p → back n p → ByVerdict v done back
 by_refused {v} {done} {back} {n} {p} e b = record {
@@ -44,25 +51,25 @@ by_refused {v} {done} {back} {n} {p} e b = record {
 -- ---- opening
 module _ (users agents : ℕ) (held : List ℤ) where
   pub opens_refused :
-      (n p : ℕ)
-      → opening_refusal users agents (length held) ≡ refused n p
-      → Opens users agents held (record { answer = Refused n p; ledger = empty_ledger }) held
-  opens_refused n p e = by_refused e (record { outcome = refl; credits = refl })
+      (e : Refusal)
+      → opening_refusal users agents (length held) ≡ refused_by e
+      → Opens users agents held (record { answer = Err e; ledger = empty_ledger }) held
+  opens_refused e v = by_refused v (record { answer = refl; ledger = refl; credits = refl })
 
   pub opens_accepted :
       opening_refusal users agents (length held) ≡ accepted
-      → Opens users agents held (record { answer = Accepted; ledger = record { users = users; agents = agents; month = pos 0 } }) (replicate users (pos 0)
+      → Opens users agents held (record { answer = Ok tt; ledger = record { users = users; agents = agents; month = pos 0 } }) (replicate users (pos 0)
       ++ drop users held)
   opens_accepted e = by_accepted e (record { outcome = refl; credits = refl })
 
   pub opens_verdict : {r : Outcome} {held' : List ℤ} → Opens users agents held r held' → verdict_of r.answer ≡ opening_refusal users agents (length held)
-  opens_verdict o = answers (λ d. ap (λ (x : Outcome). x.answer) d.outcome) (λ n p b. ap (λ (x : Outcome). x.answer) b.outcome) o
+  opens_verdict {r = r} o = answers r.answer (λ d. ap (λ (x : Outcome). verdict_of x.answer) d.outcome) (λ n p b. b.answer) o
 
 -- ---- closing
 module _ (g : Ledger) (held : List ℤ) (l : Lines) (cells : List ℤ) (work : List ℕ) where
   pub closes_refused :
-      (n p : ℕ) → closing_refusal g held cells work l ≡ refused n p → Closes g held l cells work (record { answer = Refused n p; ledger = g }) held cells work
-  closes_refused n p e = by_refused e (record { outcome = refl; credits = refl; table = refl; scratch = refl })
+      (e : Refusal) → closing_refusal g held cells work l ≡ refused_by e → Closes g held l cells work (record { answer = Err e; ledger = g }) held cells work
+  closes_refused e v = by_refused v (record { answer = refl; ledger = refl; credits = refl; table = refl; scratch = refl })
 
   -- the table of the month, written over the front of the cells slice
   pub closes_accepted :
@@ -71,7 +78,7 @@ module _ (g : Ledger) (held : List ℤ) (l : Lines) (cells : List ℤ) (work : L
       → MonthTable (state_of g held) l table
       → length table ≡ cells_needed g.users g.agents
       → length work' ≡ length work
-      → Closes g held l cells work (record { answer = Accepted; ledger = record { users = g.users; agents = g.agents; month = l.line.month } })
+      → Closes g held l cells work (record { answer = Ok tt; ledger = record { users = g.users; agents = g.agents; month = l.line.month } })
       (new_credits (state_of g held) l ++ drop g.users held)
       (table ++ drop (cells_needed g.users g.agents) cells)
       work'

@@ -10,7 +10,8 @@ use Rattle.ints.specs.Sums.{sum_ℤ}
 use Rattle.share.specs.Joined.{joined, left_out}
 use Rattle.share.proofs.Joined.{sum_joined, share_joined, share_left_out}
 use Rattle.rules.specs.Lists.{side_by_side, length_side_by_side}
-use Rattle.rules.specs.Lines.{Agent, Lines}
+use Rattle.rules.specs.declared.Agent.{Agent}
+use Rattle.rules.specs.Lines.{Lines}
 use Rattle.rules.specs.State.{State}
 use Rattle.rules.specs.Charges.{EUSTs, overrun_sums, VMEs, pv_total, pvs, CPVs, ns, VDs, new_credits}
 use Rattle.rules.specs.Credits.{VMPA, VMST, own_credit, pbs, own_credits, SMSEFrom, SMSE, VMANTsFrom, VMANTs, agent_VCs_from, VCsFrom, VCs}

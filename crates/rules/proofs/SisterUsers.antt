@@ -15,7 +15,8 @@ use Rattle.share.specs.Joined.{joined, left_out}
 use Rattle.share.proofs.Joined.{share_joined, share_left_out}
 use Rattle.rules.specs.declared.Point.{Point}
 use Rattle.rules.specs.Lists.{each_from}
-use Rattle.rules.specs.Lines.{User, Lines}
+use Rattle.rules.specs.declared.User.{User}
+use Rattle.rules.specs.Lines.{Lines}
 use Rattle.rules.specs.Charges.{use_charge, of_user, EUST, EUSTs, pv_total, CPVsFrom, CPVs}
 use Rattle.rules.specs.Sisters.{moved_up, under_one, UsersAsOne, UsersGet}
 use Rattle.rules.proofs.Sizes.{length_EUSTs}

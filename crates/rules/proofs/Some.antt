@@ -6,11 +6,11 @@ use mathlib.Core.Path.{◌≡◌, refl, sym, ap, ap₂, ◌∙◌, subst}
 use mathlib.Core.List.{List, [], ◌∷◌, ◌++◌}
 use native.Mathlib.Omega.{arith}
 use lib.IntN.{ℤ, pos}
+use Rattle.std.specs.Prelude.{Ok}
 use lib.ListN.{length, take, drop, replicate, length-append, length-take}
 use lib.Seq.{length-take-le, take_all, take-append_seam}
 use Rattle.rules.specs.declared.Ledger.{Ledger}
-use Rattle.rules.specs.declared.Answer.TheVariants.{Accepted}
-use Rattle.rules.specs.declared.Outcome.{Outcome}
+use Rattle.rules.specs.declared.outcomes.Outcome.{Outcome}
 use Rattle.rules.specs.Verdict.{Verdict, accepted, refused}
 use Rattle.rules.specs.Lines.{Lines}
 use Rattle.rules.specs.Charges.{VDs}
@@ -18,11 +18,14 @@ use Rattle.rules.specs.Credits.{VCs}
 use Rattle.rules.specs.Table.{Table}
 use Rattle.rules.specs.State.{State}
 use Rattle.rules.specs.Refusals.{cells_needed, short_slices, refusal, opening_refusal}
+use Rattle.rules.specs.Answers.{verdict_of}
 use Rattle.rules.specs.Calls.{Opens, state_of, lengths_of, closing_refusal, Closes}
 use Rattle.rules.specs.Demand.{Call, Promised, Lent, left_in, Chain, AllPromised}
 use Rattle.rules.proofs.Passed.{Passed, slices, slices_accepted, passed}
 use Rattle.rules.proofs.Sizes.{length_VDs, length_VCs}
 use Rattle.rules.proofs.Direct.{month_table}
+use Rattle.rules.proofs.Answers.{told_by}
+use Rattle.rules.proofs.Told.{told_closing}
 use Rattle.rules.proofs.Promise.{opens_accepted, closes_refused, closes_accepted}
 
 -- a table always exists: of every month that nothing refuses
@@ -110,7 +113,8 @@ one tables g credits i = go (closing_refusal g (slice credits i.lent) i.cells i.
     go : (v : Verdict) → closing_refusal g (slice credits i.lent) i.cells i.work i.lines ≡ v → One g credits i
     go (refused n p) e =
         let held = slice credits i.lent in
-        one_of g credits i _ held i.cells i.work (closes_refused g held i.lines i.cells i.work n p e)
+        let t = told_by (told_closing g held i.cells i.work i.lines) e in
+        one_of g credits i _ held i.cells i.work (closes_refused g held i.lines i.cells i.work t.0 t.1)
     go accepted e =
         let held = slice credits i.lent in
         let n = lengths_of held i.cells i.work in
@@ -157,7 +161,7 @@ pub record Some (users agents : ℕ) (held : List ℤ) (inputs : List Input) : T
   pub outcome : Outcome
   pub held_left : List ℤ
   pub opens : Opens users agents held outcome held_left
-  pub answer : outcome.answer ≡ Accepted
+  pub answer : verdict_of outcome.answer ≡ accepted
   pub run : Run outcome.ledger (take users held_left) inputs
 
 pub some :
@@ -167,7 +171,7 @@ pub some :
     → Some users agents held inputs
 some tables users agents held inputs e =
     record {
-      outcome = record { answer = Accepted; ledger = record { users = users; agents = agents; month = pos 0 } };
+      outcome = record { answer = Ok tt; ledger = record { users = users; agents = agents; month = pos 0 } };
       held_left = replicate users (pos 0) ++ drop users held;
       opens = opens_accepted users agents held e;
       answer = refl;

@@ -12,14 +12,15 @@ use borrow.Author.Tests.{ltb-false}
 use Rattle.ints.specs.Bridge.{za, add#, sub#}
 use Rattle.ints.specs.Sums.{Σ<}
 use Rattle.rules.specs.declared.Ledger.{Ledger}
-use Rattle.rules.specs.declared.Outcome.{Outcome}
+use Rattle.rules.specs.declared.outcomes.Outcome.{Outcome}
 use Rattle.rules.specs.Verdict.{Verdict, accepted, refused, ByVerdict}
 use Rattle.rules.specs.Charges.{VMEs, CPVs, VDs, new_credits}
 use Rattle.rules.specs.Table.{cell_at}
 use Rattle.rules.specs.Direct.{ongs, MonthTable}
 use Rattle.rules.specs.State.{State}
 use Rattle.rules.specs.Refusals.{cells_needed, short_slices}
-use Rattle.rules.specs.Calls.{verdict_of, state_of, closing_refusal, Closed, NotClosed}
+use Rattle.rules.specs.Answers.{verdict_of}
+use Rattle.rules.specs.Calls.{state_of, closing_refusal, Closed, NotClosed}
 use Rattle.rules.specs.Tally.{judged, moved, counted, charges_less_compensation, payee_credit}
 use Rattle.rules.specs.Demand.{Call, Promised, Lent, left_in, fed, NearCells}
 use Rattle.rules.proofs.Passed.{Passed, slices, slices_accepted, passed}
@@ -95,8 +96,8 @@ module _ (users agents : ℕ) (s : State) (c : Call) (credits : List ℤ) (a : A
       → Step (refused n p) users agents s c credits
   step_refused n p k =
       record {
-        answer = ap (λ (x : Outcome). verdict_of x.answer) k.outcome;
-        agree = rw (k.outcome, k.credits, untouched credits c.held lent) a;
+        answer = k.answer;
+        agree = rw (k.ledger, k.credits, untouched credits c.held lent) a;
         user = λ j h. refl;
         payee = λ i h. refl;
         near = by_refused refl tt;

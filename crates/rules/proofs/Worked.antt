@@ -12,7 +12,10 @@ use Rattle.ints.specs.Range.{outside}
 use Rattle.ints.specs.Sums.{sum_ℤ, Σ<}
 use Rattle.share.specs.Running.{part, parts_from, running_share}
 use Rattle.rules.specs.declared.Ledger.{Ledger}
-use Rattle.rules.specs.declared.Answer.TheVariants.{Accepted, Refused}
+use Rattle.std.specs.Prelude.{Ok, Err}
+use Rattle.rules.specs.declared.outcomes.Refusal.{Refusal}
+use Rattle.rules.specs.declared.outcomes.Lent.TheVariants.{Held}
+use Rattle.rules.specs.declared.outcomes.Refusal.TheVariants.{ShortSlice, BadMonth}
 use Rattle.rules.specs.Verdict.{accepted, refused, each_line}
 use Rattle.rules.specs.Lists.{each_from, side_by_side}
 use Rattle.rules.specs.Calendar.{month_of_year, impossible_month, cycle_month, cycle_of, settled_to}
@@ -218,7 +221,7 @@ unfolding side_by_side
 billed₂_is = month_table (state_of (ledger (pos 202407)) held₂) august refl table₂ refl shared₂
 
 -- ---- the opening and the four closings
-opening : Opens 2 2 before (record { answer = Accepted; ledger = new }) after_opening
+opening : Opens 2 2 before (record { answer = Ok tt; ledger = new }) after_opening
 unfolding opening_refusal
 opening = opens_accepted 2 2 before refl
 
@@ -231,21 +234,21 @@ closed g held l cells held' cells' =
       lines = l;
       cells = cells;
       work = work;
-      outcome = record { answer = Accepted; ledger = ledger l.line.month };
+      outcome = record { answer = Ok tt; ledger = ledger l.line.month };
       held_left = held';
       cells_left = cells';
       work_left = work;
     }
 
-abbrev not_closed : Ledger → List ℤ → Lines → List ℤ → ℕ → ℕ → Call
-not_closed g held l cells n p =
+abbrev not_closed : Ledger → List ℤ → Lines → List ℤ → Refusal → Call
+not_closed g held l cells e =
     record {
       ledger = g;
       held = held;
       lines = l;
       cells = cells;
       work = work;
-      outcome = record { answer = Refused n p; ledger = g };
+      outcome = record { answer = Err e; ledger = g };
       held_left = held;
       cells_left = cells;
       work_left = work;
@@ -255,8 +258,8 @@ abbrev calls : List Call
 calls =
     closed new held₁ july cells held₁ cells₁
     ∷ closed (ledger (pos 202407)) held₂ august cells₁ left₂ cells₂
-    ∷ not_closed (ledger (pos 202408)) too_short september cells₂ 2 1
-    ∷ not_closed (ledger (pos 202408)) credits july cells₂ 3 0
+    ∷ not_closed (ledger (pos 202408)) too_short september cells₂ (ShortSlice Held)
+    ∷ not_closed (ledger (pos 202408)) credits july cells₂ BadMonth
     ∷ []
 
 first : Promised (closed new held₁ july cells held₁ cells₁)
@@ -276,8 +279,8 @@ promised = (
   (
     second,
     (
-      closes_refused (ledger (pos 202408)) too_short september cells₂ work 2 1 in_september,
-      (closes_refused (ledger (pos 202408)) credits july cells₂ work 3 0 again, tt),
+      closes_refused (ledger (pos 202408)) too_short september cells₂ work (ShortSlice Held) in_september,
+      (closes_refused (ledger (pos 202408)) credits july cells₂ work BadMonth again, tt),
     ),
   ),
 )

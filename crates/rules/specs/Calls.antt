@@ -1,20 +1,14 @@
 -- Opening and closing: what is answered, and what each lent slice holds afterwards (paper 01, "The ledger").
-use Rattle.std.specs.Prelude.{ℕ, ◌≡◌, List, ◌++◌, ℤ, pos, length, take, drop, replicate}
+use Rattle.std.specs.Prelude.{ℕ, ◌≡◌, Ok, List, ◌++◌, ℤ, pos, length, take, drop, replicate}
 use Rattle.rules.specs.declared.Ledger.{Ledger}
-use Rattle.rules.specs.declared.Answer.{Answer}
-use Rattle.rules.specs.declared.Answer.TheVariants.{Accepted, Refused}
-use Rattle.rules.specs.declared.Outcome.{Outcome}
-use Rattle.rules.specs.Verdict.{Verdict, accepted, refused, ByVerdict}
+use Rattle.rules.specs.declared.outcomes.Outcome.{Outcome}
+use Rattle.rules.specs.Verdict.{Verdict, refused, ByVerdict}
+use Rattle.rules.specs.Answers.{verdict_of}
 use Rattle.rules.specs.Lines.{Lines}
 use Rattle.rules.specs.Charges.{new_credits}
 use Rattle.rules.specs.Direct.{MonthTable}
 use Rattle.rules.specs.State.{State}
 use Rattle.rules.specs.Refusals.{Lengths, cells_needed, short_slices, refusal, opening_refusal}
-
--- the paper's number and place of each answer
-abbrev pub verdict_of : Answer → Verdict
-verdict_of Accepted = accepted
-verdict_of (Refused n p) = refused n p
 
 -- what a ledger and a held slice stand for: the credits are the first entry per user
 abbrev pub state_of : Ledger → List ℤ → State
@@ -23,7 +17,7 @@ state_of g held = record { users = g.users; agents = g.agents; month = g.month; 
 -- ---- opening with these counts and held slice answered r and left the slice as held'
 -- accepted: the first entry per user is 0, entries beyond stay
 pub record Opened (users agents : ℕ) (held : List ℤ) (r : Outcome) (held' : List ℤ) : Type 0 where
-  pub outcome : r ≡ record { answer = Accepted; ledger = record { users = users; agents = agents; month = pos 0 } }
+  pub outcome : r ≡ record { answer = Ok tt; ledger = record { users = users; agents = agents; month = pos 0 } }
   pub credits : held' ≡ replicate users (pos 0) ++ drop users held
 
 -- refused with n and p: a ledger of counts 0 and month 0, and the slice as it was
@@ -31,7 +25,8 @@ abbrev pub empty_ledger : Ledger
 empty_ledger = record { users = 0; agents = 0; month = pos 0 }
 
 pub record NotOpened (held : List ℤ) (r : Outcome) (held' : List ℤ) (n p : ℕ) : Type 0 where
-  pub outcome : r ≡ record { answer = Refused n p; ledger = empty_ledger }
+  pub answer : verdict_of r.answer ≡ refused n p
+  pub ledger : r.ledger ≡ empty_ledger
   pub credits : held' ≡ held
 
 abbrev pub Opens : ℕ → ℕ → List ℤ → Outcome → List ℤ → Type 0
@@ -49,7 +44,7 @@ closing_refusal g held cells work l = refusal (state_of g held) (short_slices (s
 -- being free. Entries beyond stay, and what the work slice holds is free
 pub record Closed (g : Ledger) (held : List ℤ) (l : Lines) (cells : List ℤ) (work : List ℕ) (r : Outcome) (held' cells' : List ℤ) (work' : List ℕ)
     : Type 0 where
-  pub outcome : r ≡ record { answer = Accepted; ledger = record { users = g.users; agents = g.agents; month = l.line.month } }
+  pub outcome : r ≡ record { answer = Ok tt; ledger = record { users = g.users; agents = g.agents; month = l.line.month } }
   pub credits : held' ≡ new_credits (state_of g held) l ++ drop g.users held
   pub table : MonthTable (state_of g held) l (take (cells_needed g.users g.agents) cells')
   pub beyond : drop (cells_needed g.users g.agents) cells' ≡ drop (cells_needed g.users g.agents) cells
@@ -57,7 +52,8 @@ pub record Closed (g : Ledger) (held : List ℤ) (l : Lines) (cells : List ℤ) 
 
 -- refused with n and p: everything as it was
 pub record NotClosed (g : Ledger) (held cells : List ℤ) (work : List ℕ) (r : Outcome) (held' cells' : List ℤ) (work' : List ℕ) (n p : ℕ) : Type 0 where
-  pub outcome : r ≡ record { answer = Refused n p; ledger = g }
+  pub answer : verdict_of r.answer ≡ refused n p
+  pub ledger : r.ledger ≡ g
   pub credits : held' ≡ held
   pub table : cells' ≡ cells
   pub scratch : work' ≡ work

@@ -4,7 +4,7 @@ use Rattle.std.specs.Prelude.{ℕ, suc, ◌<◌, ◌≡◌, List, [], ◌∷◌,
 use Rattle.ints.specs.Bridge.{abs}
 use Rattle.ints.specs.Sums.{sum_ℤ, Σ<}
 use Rattle.rules.specs.declared.Ledger.{Ledger}
-use Rattle.rules.specs.declared.Outcome.{Outcome}
+use Rattle.rules.specs.declared.outcomes.Outcome.{Outcome}
 use Rattle.rules.specs.Verdict.{ByVerdict}
 use Rattle.rules.specs.Lines.{Lines}
 use Rattle.rules.specs.Charges.{VDs}
@@ -12,7 +12,8 @@ use Rattle.rules.specs.Credits.{VCs}
 use Rattle.rules.specs.Table.{cell_at}
 use Rattle.rules.specs.Direct.{direct}
 use Rattle.rules.specs.State.{State}
-use Rattle.rules.specs.Calls.{verdict_of, state_of, lengths_of, Closes}
+use Rattle.rules.specs.Answers.{verdict_of}
+use Rattle.rules.specs.Calls.{state_of, lengths_of, Closes}
 use Rattle.rules.specs.Tally.{Fed, opened, judged, next, after, verdicts, counted, added, charges_less_compensation, payee_credit}
 
 -- one closing: what was handed in, what was answered, and the slices as it left them

@@ -1,29 +1,30 @@
 -- DEMAND 1 in words, of one call: exactly the limits decide its answer; a refused call changes nothing; an accepted one does its work and
 -- leaves every entry beyond it as it was (paper 01, "Why a month comes back" and "The ledger").
-use Rattle.std.specs.Prelude.{ℕ, ◌≡◌, ◌↔◌, List, ℤ, pos, length, take, drop, replicate}
-use Rattle.rules.specs.declared.Answer.{Answer}
-use Rattle.rules.specs.declared.Answer.TheVariants.{Accepted, Refused}
-use Rattle.rules.specs.declared.Outcome.{Outcome}
+use Rattle.std.specs.Prelude.{ℕ, ◌≡◌, ◌↔◌, Result, List, ℤ, pos, length, take, drop, replicate}
+use Rattle.rules.specs.declared.outcomes.Outcome.{Outcome}
+use Rattle.rules.specs.declared.outcomes.Refusal.{Refusal}
+use Rattle.rules.specs.Verdict.{accepted, refused}
 use Rattle.rules.specs.Refusals.{cells_needed}
 use Rattle.rules.specs.Limits.{Limit, opening_limits, closing_limits}
+use Rattle.rules.specs.Answers.{verdict_of}
 use Rattle.rules.specs.Calls.{state_of, lengths_of}
 use Rattle.rules.specs.Demand.{Call}
 
 -- accepted exactly if every limit is kept; refused with a number and a place exactly if the first limit that is broken comes back so
-pub record AnsweredBy (limits : Limit) (a : Answer) : Type 0 where
-  pub accepted : limits.keeps ↔ (a ≡ Accepted)
-  pub refused : (n p : ℕ) → limits.breaks n p ↔ (a ≡ Refused n p)
+pub record AnsweredBy (limits : Limit) {T : Type 0} (a : Result T Refusal) : Type 0 where
+  pub done : limits.keeps ↔ (verdict_of a ≡ accepted)
+  pub back : (n p : ℕ) → limits.breaks n p ↔ (verdict_of a ≡ refused n p)
 
 -- opening with these counts and held slice answered r and left the slice as held'
 pub record Demand1Opening (users agents : ℕ) (held : List ℤ) (r : Outcome) (held' : List ℤ) : Type 0 where
   pub answer : AnsweredBy (opening_limits users agents (length held)) r.answer
   -- refused: a ledger of counts 0 and month 0, and the slice entry for entry as it was
-  pub no_ledger : (n p : ℕ) → r.answer ≡ Refused n p → r.ledger ≡ record { users = 0; agents = 0; month = pos 0 }
-  pub unchanged : (n p : ℕ) → r.answer ≡ Refused n p → held' ≡ held
+  pub no_ledger : (n p : ℕ) → verdict_of r.answer ≡ refused n p → r.ledger ≡ record { users = 0; agents = 0; month = pos 0 }
+  pub unchanged : (n p : ℕ) → verdict_of r.answer ≡ refused n p → held' ≡ held
   -- accepted: a ledger of these counts, no month closed, a credit of 0 for each user; entries beyond as they were
-  pub ledger : r.answer ≡ Accepted → r.ledger ≡ record { users = users; agents = agents; month = pos 0 }
-  pub credits : r.answer ≡ Accepted → take users held' ≡ replicate users (pos 0)
-  pub beyond : r.answer ≡ Accepted → drop users held' ≡ drop users held
+  pub ledger : verdict_of r.answer ≡ accepted → r.ledger ≡ record { users = users; agents = agents; month = pos 0 }
+  pub credits : verdict_of r.answer ≡ accepted → take users held' ≡ replicate users (pos 0)
+  pub beyond : verdict_of r.answer ≡ accepted → drop users held' ≡ drop users held
 
 -- a refused closing: the ledger, and each lent slice entry for entry, as they were handed in
 pub record Unchanged (c : Call) : Type 0 where
@@ -45,5 +46,5 @@ pub record Advanced (c : Call) : Type 0 where
 
 pub record Demand1Closing (c : Call) : Type 0 where
   pub answer : AnsweredBy (closing_limits (state_of c.ledger c.held) (lengths_of c.held c.cells c.work) c.lines) c.outcome.answer
-  pub unchanged : (n p : ℕ) → c.outcome.answer ≡ Refused n p → Unchanged c
-  pub advanced : c.outcome.answer ≡ Accepted → Advanced c
+  pub unchanged : (n p : ℕ) → verdict_of c.outcome.answer ≡ refused n p → Unchanged c
+  pub advanced : verdict_of c.outcome.answer ≡ accepted → Advanced c

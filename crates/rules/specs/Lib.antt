@@ -5,6 +5,7 @@ pub mod Most
 pub mod Lists
 pub mod Calendar
 pub mod Lines
+pub mod Kinds
 pub mod Ranges
 pub mod State
 pub mod Charges
@@ -17,6 +18,7 @@ pub mod TariffYear
 pub mod Bands
 pub mod Sisters
 pub mod Tested
+pub mod Answers
 pub mod Calls
 pub mod Tally
 pub mod WholeCycle

@@ -5,7 +5,9 @@ use Rattle.ints.specs.Range.{Within}
 use Rattle.ints.specs.Sums.{sum_ℤ}
 use Rattle.rules.specs.declared.Point.{Point}
 use Rattle.rules.specs.Most.{most_held}
-use Rattle.rules.specs.Lines.{Agent, User, Lines, kind_of, distributor, generator}
+use Rattle.rules.specs.declared.Agent.{Agent}
+use Rattle.rules.specs.declared.User.{User}
+use Rattle.rules.specs.Lines.{Lines, kind_of, distributor, generator}
 use Rattle.rules.specs.Ranges.{Amount, Correction, Tariff, Discount, Power, AmountsFit}
 use Rattle.rules.specs.State.{State}
 use Rattle.rules.specs.Charges.{pv_total, EUSTs, VDs}

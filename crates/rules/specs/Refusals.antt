@@ -8,7 +8,9 @@ use Rattle.rules.specs.declared.Point.{Point}
 use Rattle.rules.specs.Verdict.{Verdict, when, ◌then◌, each_line}
 use Rattle.rules.specs.Calendar.{impossible_month}
 use Rattle.rules.specs.Most.{most_held}
-use Rattle.rules.specs.Lines.{Agent, User, Lines, kind_of, bad_amount, bad_agent, bad_user, bad_point, unfit_point}
+use Rattle.rules.specs.declared.Agent.{Agent}
+use Rattle.rules.specs.declared.User.{User}
+use Rattle.rules.specs.Lines.{Lines, kind_of, bad_amount, bad_agent, bad_user, bad_point, unfit_point}
 use Rattle.rules.specs.State.{State}
 use Rattle.rules.specs.Charges.{pv_total, EUSTs, VDs}
 use Rattle.rules.specs.Credits.{pbs}

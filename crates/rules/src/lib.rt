@@ -1,6 +1,12 @@
 // The shapes that the calls share: lines, ledger, answers. What they mean is in specs/: paper 01 as definitions.
 #![tactic(auto)]
 
+mod kinds;
+mod outcomes;
+
+pub use kinds::{Kind, NoKind};
+pub use outcomes::{Lent, Outcome, Refusal};
+
 // The month line (paper 01, "A month's lines"): yyyymm, and RMONS.
 #[derive(Clone, Copy)]
 pub struct MonthLine {
@@ -8,14 +14,27 @@ pub struct MonthLine {
     pub ons: i64,
 }
 
-// An agent's, a user's and a point's line: its values in the order of the columns, which `columns` names.
-pub type AgentLine = [i64; 7];
+// An agent's line: its position from 1, base payments, variable parcel, overload addition, overload refund, yearly adjustment, revenue
+// correction.
+#[derive(Clone, Copy)]
+pub struct Agent {
+    pub number: i64,
+    pub pb: i64,
+    pub pv: i64,
+    pub afs: i64,
+    pub rfs: i64,
+    pub pa: i64,
+    pub ret: i64,
+}
 
-pub type UserLine = [i64; 4];
-
-pub type PointLine = [i64; 9];
-
-pub mod columns;
+// A user's line: its position from 1, the number of its kind, charge correction, direct charge (paper 02, Q-1).
+#[derive(Clone, Copy)]
+pub struct User {
+    pub number: i64,
+    pub kind: i64,
+    pub ret: i64,
+    pub ong: i64,
+}
 
 // A connection point's line: its user, then peak and off-peak tariff, discount, contracted and verified power.
 #[derive(Clone, Copy)]
@@ -31,24 +50,20 @@ pub struct Point {
     pub vf: i64,
 }
 
-// The ledger (paper 01, "The ledger"): the counts of an accepted opening and the last closed month, 0 for none.
+// The lines of one month, as a call is lent them.
 #[derive(Clone, Copy)]
+pub struct MonthLines<'a> {
+    pub line: MonthLine,
+    pub agents: &'a [Agent],
+    pub users: &'a [User],
+    pub points: &'a [Point],
+}
+
+// The ledger (paper 01, "The ledger"): the counts of an accepted opening and the last closed month, 0 for none. The default is what a
+// refused opening answers.
+#[derive(Clone, Copy, Default)]
 pub struct Ledger {
     pub users: u64,
     pub agents: u64,
     pub month: i64,
-}
-
-// What opening and closing answer: accepted, or refused with paper 01's number and place.
-#[derive(Clone, Copy)]
-pub enum Answer {
-    Accepted,
-    Refused(u64, u64),
-}
-
-// The answer of opening or closing, with the ledger that holds from then on.
-#[derive(Clone, Copy)]
-pub struct Outcome {
-    pub answer: Answer,
-    pub ledger: Ledger,
 }

@@ -1,41 +1,40 @@
--- 1 to 7, and of a month that passes them 8 to 10 with its amounts; the held credits looked at are one for each user of the ledger.
-use Rattle.std.proofs.Common.{◌≡◌, List, ℤ, sym, ap, ◌∙◌}
+-- Each group of refusals in turn; the held credits looked at are one for each user of the ledger.
+use Rattle.std.proofs.Common.{refl, sym, ap, ◌∙◌}
 use lib.Seq.{length-take-le}
-use Rattle.rules.specs.declared.Answer.{Answer}
-use Rattle.rules.specs.declared.Ledger.{Ledger}
-use Rattle.rules.specs.declared.MonthLine.{MonthLine}
-use Rattle.rules.specs.Verdict.{Verdict, accepted, ◌then◌}
-use Rattle.rules.specs.Lines.{Lines, month_lines}
-use Rattle.rules.specs.Refusals.{state_tests, line_tests}
-use Rattle.rules.specs.Calls.{state_of, verdict_of}
-use Rattle.closing.proofs.Judging.{held_reach, points_found, sums_last, refuses, long_held, weighable, judges}
+use Rattle.rules.specs.Answers.{verdict_of}
+use Rattle.closing.proofs.Judging.{stops, order, held_reach, sums_left, weighable, finds}
 use Rattle.closing.proofs.judge.judge.Goals as goal
 
--- through 1 to 7, as the definitions say
-abbrev tests : Ledger → List ℤ → MonthLine → Lines → Answer → Verdict
-tests g held line l first = verdict_of first then state_tests (state_of g held) line then line_tests l
+pub returns-in_err-first : goal.returns-in_err-first
+returns-in_err-first c short b = stops _ c.from_residual.result c.from_residual.ensures.1 (rw c.in_err-first.was at (order b))
+
+pub state_verdict-requires : goal.state_verdict-requires
+state_verdict-requires c = held_reach c.requires.1 (ap verdict_of c.in_ok-first.was)
+
+pub returns-in_err-state_verdict : goal.returns-in_err-state_verdict
+returns-in_err-state_verdict c short b =
+    stops _ c.from_residual-in_err-state_verdict.result c.from_residual-in_err-state_verdict.ensures.1
+    (rw (c.in_ok-first.was, sym c.in_err-state_verdict.ensures) at (order b))
+
+pub returns-in_err-sums : goal.returns-in_err-sums
+returns-in_err-sums c short b =
+    stops _ c.from_residual-in_err-sums.result c.from_residual-in_err-sums.ensures.1
+    (rw (c.in_ok-first.was, sym c.in_ok-state_verdict.ensures, sym c.in_err-sums.ensures.verdict) at (order b))
 
 pub slice_bounds-weighed-end : goal.slice_bounds-weighed-end
-slice_bounds-weighed-end c =
-    let p = c.requires in
-    let t : accepted ≡ tests c.args.ledger c.args.held.now c.args.line (month_lines c.args.line c.args.agents.now c.args.users.now p.0) c.args.first =
-    sym (ap verdict_of c.in-Accepted.is) ∙ c.through_lines-verdict.ensures p.0 (points_found p.2) in
-    sym (length-take-le _ _ (long_held c.args.agents.now c.args.users.now p.2 t))
+slice_bounds-weighed-end c = sym (length-take-le _ _ (held_reach c.requires.1 (ap verdict_of c.in_ok-first.was)))
 
 pub weighed-requires : goal.weighed-requires
-weighed-requires c =
-    let p = c.requires in
-    (_, _, p.0, weighable _ _ p.2 (sym (ap verdict_of c.in-Accepted.is) ∙ c.through_lines-verdict.ensures p.0 (points_found p.2)))
+weighed-requires c = (_, weighable c.requires.1 (ap verdict_of c.in_ok-first.was) (sym c.in_ok-state_verdict.ensures) (sym c.in_ok-sums.ensures.verdict) c.in_ok-sums.ensures.found)
 
-pub returns-in-Refused : goal.returns-in-Refused
-returns-in-Refused c points short b =
-    refuses _ c.refused.ensures (sums_last b (sym (ap verdict_of c.in-Refused.is) ∙ c.through_lines-verdict.ensures points (points_found b)))
+pub returns-in_err-bills : goal.returns-in_err-bills
+returns-in_err-bills c short b =
+    let w = weighable b (ap verdict_of c.in_ok-first.was) (sym c.in_ok-state_verdict.ensures) (sym c.in_ok-sums.ensures.verdict) c.in_ok-sums.ensures.found in
+    stops _ c.from_residual-in_err-bills.result c.from_residual-in_err-bills.ensures.1
+    ((c.in_err-bills.ensures _ w).verdict ∙ sums_left b (ap verdict_of c.in_ok-first.was) (sym c.in_ok-state_verdict.ensures) (sym c.in_ok-sums.ensures.verdict))
 
-pub returns-in-Accepted : goal.returns-in-Accepted
-returns-in-Accepted c points short b =
-    let t : accepted ≡ tests c.args.ledger c.args.held.now c.args.line (month_lines c.args.line c.args.agents.now c.args.users.now points) c.args.first =
-    sym (ap verdict_of c.in-Accepted.is) ∙ c.through_lines-verdict.ensures points (points_found b) in
-    judges c.args.agents.now c.args.users.now b t (c.weighed.ensures _ _ points (weighable c.args.agents.now c.args.users.now b t))
-
-pub through_lines-verdict-requires : goal.through_lines-verdict-requires
-through_lines-verdict-requires c = held_reach c.requires.2
+pub returns : goal.returns
+returns c short b =
+    let one = ap verdict_of c.in_ok-first.was in
+    let w = weighable b one (sym c.in_ok-state_verdict.ensures) (sym c.in_ok-sums.ensures.verdict) c.in_ok-sums.ensures.found in
+    finds b one (sym c.in_ok-state_verdict.ensures) (sym c.in_ok-sums.ensures.verdict) c.in_ok-sums.ensures.found (c.in_ok-bills.ensures _ w)

@@ -1,7 +1,7 @@
 -- The parts as rules' bounds of an agent line have them.
 use Rattle.std.proofs.Common.{◌≡◌, ℤ, sym, to_z-of_z, w64, SFits}
 use Rattle.ints.specs.Words.{back}
-use Rattle.rules.specs.Lines.{Agent, agent_of}
+use Rattle.rules.specs.declared.Agent.{Agent}
 use Rattle.rules.specs.Ranges.{Correction}
 use Rattle.rules.specs.Credits.{VMPA, own_credit}
 use Rattle.rules.proofs.BoundsAgent.{agent_bounds, correction}
@@ -20,14 +20,14 @@ pub overflow_add-result : goal.overflow_add-result
 overflow_add-result c =
     let a = c.requires.1 in
     let b = agent_bounds c.requires.0 a in
-    let due = vmpa_is (agent_of c.args.line) c.ranges.b c.ranges.c a.pa c.vmpa.ensures in
+    let due = vmpa_is c.args.agent c.ranges.b c.ranges.c a.pa c.vmpa.ensures in
     simp (due, c.vmst.ensures, to_z-of_z, b.VMPA.fits, b.VMST.fits) b.VMST_VMPA.fits
 
 pub overflow_add-result-2 : goal.overflow_add-result-2
 overflow_add-result-2 c =
     let a = c.requires.1 in
     let b = agent_bounds c.requires.0 a in
-    let due = vmpa_is (agent_of c.args.line) c.ranges.b c.ranges.c a.pa c.vmpa.ensures in
+    let due = vmpa_is c.args.agent c.ranges.b c.ranges.c a.pa c.vmpa.ensures in
     simp (due, c.vmst.ensures, to_z-of_z, b.VMPA.fits, b.VMST.fits, b.VMST_VMPA.fits, (correction a.ret).fits) b.own.fits
 
 pub returns : goal.returns
@@ -35,5 +35,5 @@ unfolding own_credit
 returns c =
     let a = c.requires.1 in
     let b = agent_bounds c.requires.0 a in
-    let due = vmpa_is (agent_of c.args.line) c.ranges.b c.ranges.c a.pa c.vmpa.ensures in
+    let due = vmpa_is c.args.agent c.ranges.b c.ranges.c a.pa c.vmpa.ensures in
     simp (due, c.vmst.ensures, to_z-of_z, b.VMPA.fits, b.VMST.fits, b.VMST_VMPA.fits, (correction a.ret).fits, b.own.fits)

@@ -1,2 +1,0 @@
--- `Finished` is closing's promise once the points are scanned.
-pub mod Finished
