@@ -11,15 +11,16 @@ use Rattle.std.proofs.lemmas.List.{length-map}
 use Rattle.format.specs.Blocks.{slices}
 use Rattle.format.specs.Reading.{reading, ReadingAnswer, accepted, refused}
 use Rattle.format.proofs.FileByFile.{next_within}
+use Rattle.rules.specs.declared.Agent.{Agent}
 use Rattle.rules.specs.declared.Point.{Point}
-use Rattle.rules.specs.Lines.{month_lines, point_of}
-use Rattle.monthfile.specs.Reads.{Gives, Reads, as_points, header, month_line, over}
+use Rattle.rules.specs.declared.User.{User}
+use Rattle.rules.specs.declared.outcomes.Refusal.{Refusal}
+use Rattle.rules.specs.Lines.{Lines, lines_of, agent_of, user_of, point_of}
+use Rattle.monthfile.specs.Reads.{Gives, Reads, as_agents, as_users, as_points, header, month_line, over}
 use Rattle.monthfile.specs.declared.reader.Reader.{Reader}
 use Rattle.monthfile.specs.declared.reading.Header.{Header}
-use Rattle.monthfile.specs.declared.reading.Reading.TheVariants.{Accepted, Refused}
 use Rattle.runs.specs.declared.months.Month.{Month}
 use Rattle.runs.specs.declared.months.TheConstants.{AGENTS, USERS, POINTS}
-use Rattle.runs.specs.Old.{lines_of}
 use Rattle.runs.specs.Runs.{Advances, lines_in, ReadsNext}
 
 -- what was read stands in front
@@ -40,47 +41,44 @@ module _ (before after : Reader) (text : after.text ≡ before.text) where
           record { text = text; further = omega (arith, on.0, s.2); within = rw (text, s.2) on.1 }
       by (refused n p) q s = cc
 
-  module _ (ags us ags' us' : List (List ℤ)) (ps ps' : List Point) (a : length ags ≡ 16) (u : length us ≡ 64) (p : length ps ≡ 256) where
+  module _
+      (ags ags' : List Agent) (us us' : List User) (ps ps' : List Point)
+      (a : length ags ≡ AGENTS) (u : length us ≡ USERS) (p : length ps ≡ POINTS) where
     on_month :
         (x : ReadingAnswer) (h : Header)
-        → Gives as_points x ags us ps ags' us' ps' (Accepted h)
+        → Gives x ags us ps ags' us' ps' (Ok h)
         → after.at ≡ h.next
         → (m : Month)
-        → lines_of m.lines ≡ month_lines h.line (take h.agents ags') (take h.users us') (take h.points ps')
+        → lines_of m.lines ≡ record { line = h.line; agents = take h.agents ags'; users = take h.users us'; points = take h.points ps' }
         → ReadsNext x (Ok m) before after
     on_month (accepted f next) h g at m e =
         let k : h ≡ header f next = cc in
-        let a : take h.agents ags' ≡ f.agents = rw g.agents_are (front f.agents ags h.agents (ap (λ (h : Header). h.agents) k)) in
-        let b : take h.users us' ≡ f.users = rw g.users_are (front f.users us h.users (ap (λ (h : Header). h.users) k)) in
+        let i : h.agents ≡ length (as_agents f) = ap (λ (h : Header). h.agents) k ∙ sym (length-map f.agents agent_of) in
+        let j : h.users ≡ length (as_users f) = ap (λ (h : Header). h.users) k ∙ sym (length-map f.users user_of) in
         let n : h.points ≡ length (as_points f) = ap (λ (h : Header). h.points) k ∙ sym (length-map f.points point_of) in
+        let b : take h.agents ags' ≡ as_agents f = rw g.agents_are (front (as_agents f) ags h.agents i) in
+        let c : take h.users us' ≡ as_users f = rw g.users_are (front (as_users f) us h.users j) in
         let d : take h.points ps' ≡ as_points f = rw g.points_are (front (as_points f) ps h.points n) in
         let l : h.line ≡ month_line f = ap (λ (h : Header). h.line) k in
-        let w : month_lines h.line (take h.agents ags') (take h.users us') (take h.points ps') ≡ lines_in f = cc in
+        let front_lines : Lines = record { line = h.line; agents = take h.agents ags'; users = take h.users us'; points = take h.points ps' } in
+        let w : front_lines ≡ lines_in f = cc in
         (e ∙ w, text, cc)
-    on_month (refused n p) h g at m e = cc
+    on_month (refused n q) h g at m e = cc
 
     -- an accepted reading is of the month that its slices begin with
     pub next_month :
         (h : Header)
-        → Reads as_points before.text.now before.at ags us ps ags' us' ps' (Accepted h)
+        → Reads before.text.now before.at ags us ps ags' us' ps' (Ok h)
         → after.at ≡ h.next
         → (m : Month)
-        → lines_of m.lines ≡ month_lines h.line (take h.agents ags') (take h.users us') (take h.points ps')
+        → lines_of m.lines ≡ record { line = h.line; agents = take h.agents ags'; users = take h.users us'; points = take h.points ps' }
         → ReadsNext (next_file before) (Ok m) before after
     next_month h g = on_month (next_file before) h (rw (a, u, p) at g)
 
-    on_refused :
-        (x : ReadingAnswer) (n q : ℕ)
-        → Gives as_points x ags us ps ags' us' ps' (Refused n q)
-        → after.at ≡ before.at
-        → ReadsNext x (Err (record { number = n; place = q })) before after
-    on_refused (accepted f next) n q g at = cc
-    on_refused (refused m r) n q g at = let e : n ≡ m = cc in let i : q ≡ r = cc in (cc, text, at)
+    on_refused : (x : ReadingAnswer) (e : Refusal) → Gives x ags us ps ags' us' ps' (Err e) → after.at ≡ before.at → ReadsNext x (Err e) before after
+    on_refused (accepted f next) e g at = cc
+    on_refused (refused n q) e g at = (g.answer, text, at)
 
     -- a refused one leaves the reader where it was
-    pub next_refused :
-        (n q : ℕ)
-        → Reads as_points before.text.now before.at ags us ps ags' us' ps' (Refused n q)
-        → after.at ≡ before.at
-        → ReadsNext (next_file before) (Err (record { number = n; place = q })) before after
-    next_refused n q g = on_refused (next_file before) n q (rw (a, u, p) at g)
+    pub next_refused : (e : Refusal) → Reads before.text.now before.at ags us ps ags' us' ps' (Err e) → after.at ≡ before.at → ReadsNext (next_file before) (Err e) before after
+    next_refused e g = on_refused (next_file before) e (rw (a, u, p) at g)

@@ -1,3 +1,2 @@
 -- `Runs` is what reading the next file comes to. What is printed is tested and not proved.
-pub mod Old
 pub mod Runs

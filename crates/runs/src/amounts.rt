@@ -1,13 +1,13 @@
 // The report of `consulta`: every amount of a closed month.
 ghost use Rattle.statement.specs.Statement.{States};
-ghost use Rattle.runs.specs.Old.{lines_of, stated_by};
+ghost use Rattle.rules.specs.Lines.{lines_of};
 
 use crate::books::Books;
 use crate::months::{AGENTS, Month, POINTS, USERS};
-use crate::old::{MonthLines, Refusal, checked};
 use crate::payees::{Payee, each_cell};
 use crate::report::Report;
-use statement::{PayeeRow, PointRow, UserRow, columns as stated};
+use rules::{MonthLines, Refusal};
+use statement::{PayeeRow, PointRow, UserRow};
 use std::{fmt, io};
 
 pub(crate) struct Amounts;
@@ -39,31 +39,26 @@ const PAYEES: usize = AGENTS + 1;
 impl Rows {
     fn new() -> Rows {
         Rows {
-            points: [[0; 2]; POINTS],
-            users: [[0; 10]; USERS],
-            payees: [[0; 6]; PAYEES],
+            points: [PointRow::default(); POINTS],
+            users: [UserRow::default(); USERS],
+            payees: [PayeeRow::default(); PAYEES],
         }
     }
 
     // States a month with the credits that are held: its balance.
     fn state(&mut self, books: &Books, month: MonthLines<'_>) -> Result<i64, Refusal>
         ensures { States books.now.ledger books.now.held (lines_of month.entry)
-            self.old.points self.old.users self.old.payees (stated_by result)
+            self.old.points self.old.users self.old.payees result
             self.new.points self.new.users self.new.payees }
     {
-        let stated = statement::state(
+        statement::state(
             books.ledger,
             &books.held,
-            month.line,
-            month.agents,
-            month.users,
-            month.points,
+            month,
             &mut self.points,
             &mut self.users,
             &mut self.payees,
-        );
-        checked(stated.answer)?;
-        Ok(stated.smse)
+        )
     }
 
     // States a month with the credits held before it, and closes it.
@@ -124,10 +119,7 @@ impl<R: io::Print> Printer<'_, R> {
     fn points(&self, rows: &Rows) -> io::Result<()> {
         let points = self.month.lines.points;
         for (number, (point, r)) in (1..=points.len()).zip(points.iter().zip(&rows.points)) {
-            let amounts = [
-                ("use", r[stated::USE_CHARGE]),
-                ("overrun", r[stated::OVERRUN]),
-            ];
+            let amounts = [("use", r.use_charge), ("overrun", r.overrun)];
             self.rows(Of::Point(point.user, number), &amounts)?;
         }
         Ok(())
@@ -136,16 +128,16 @@ impl<R: io::Print> Printer<'_, R> {
     fn users(&self, rows: &Rows) -> io::Result<()> {
         for (user, r) in (1..=self.month.lines.users.len()).zip(&rows.users) {
             let amounts = [
-                ("EUST", r[stated::EUST]),
-                ("overruns", r[stated::OVERRUNS]),
-                ("ret", r[stated::USER_RET]),
-                ("VME", r[stated::VME]),
-                ("CPV", r[stated::CPV]),
-                ("held_before", r[stated::HELD_BEFORE]),
-                ("n", r[stated::N]),
-                ("VD", r[stated::VD]),
-                ("held_after", r[stated::HELD_AFTER]),
-                ("ong", r[stated::ONG]),
+                ("EUST", r.eust),
+                ("overruns", r.overruns),
+                ("ret", r.ret),
+                ("VME", r.vme),
+                ("CPV", r.cpv),
+                ("held_before", r.held_before),
+                ("n", r.n),
+                ("VD", r.vd),
+                ("held_after", r.held_after),
+                ("ong", r.ong),
             ];
             self.rows(Of::User(user), &amounts)?;
         }
@@ -155,11 +147,11 @@ impl<R: io::Print> Printer<'_, R> {
     fn agents(&self, rows: &Rows) -> io::Result<()> {
         for (agent, r) in (1..=self.month.lines.agents.len()).zip(&rows.payees) {
             let amounts = [
-                ("VMST", r[stated::VMST]),
-                ("VMPA", r[stated::VMPA]),
-                ("VMANT", r[stated::VMANT]),
-                ("ret", r[stated::PAYEE_RET]),
-                ("VC", r[stated::VC]),
+                ("VMST", r.vmst),
+                ("VMPA", r.vmpa),
+                ("VMANT", r.vmant),
+                ("ret", r.ret),
+                ("VC", r.vc),
             ];
             self.rows(Of::Payee(Payee::Agent(agent)), &amounts)?;
         }
@@ -169,7 +161,7 @@ impl<R: io::Print> Printer<'_, R> {
     // ONS's shared part, and its credit with every direct charge.
     fn ons(&self, rows: &Rows) -> io::Result<()> {
         let r = rows.payees[self.month.lines.agents.len()];
-        let amounts = [("ons", r[stated::SHARED]), ("VC", r[stated::VC])];
+        let amounts = [("ons", r.shared), ("VC", r.vc)];
         self.rows(Of::Payee(Payee::Ons), &amounts)
     }
 

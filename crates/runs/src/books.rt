@@ -1,11 +1,9 @@
 // The ledger with its held credits, and what else a closing writes.
-ghost use Rattle.std.specs.Prelude.{◌≡◌, ◌<◌, length, OnOk};
 ghost use Rattle.rules.specs.Calls.{Opens, Closes};
-ghost use Rattle.runs.specs.Old.{answered_by, lines_of};
+ghost use Rattle.rules.specs.Lines.{lines_of};
 
 use crate::months::{AGENTS, USERS};
-use crate::old::{MonthLines, Refusal, checked};
-use rules::Ledger;
+use rules::{Ledger, MonthLines, Refusal};
 
 // Paper 01's needs: a cell for each payee and user, and of work twice that and 4 for each payee and user.
 const CELLS: usize = (AGENTS + 1) * USERS;
@@ -24,11 +22,7 @@ impl Books {
     // With no ledger open.
     pub(crate) fn new() -> Books {
         Books {
-            ledger: Ledger {
-                users: 0,
-                agents: 0,
-                month: 0,
-            },
+            ledger: Ledger::default(),
             held: [0; USERS],
             cells: [0; CELLS],
             work: [0; WORK],
@@ -38,30 +32,27 @@ impl Books {
     // Opens the ledger for these counts.
     pub(crate) fn open(&mut self, users: usize, agents: usize) -> Result<(), Refusal>
         ensures { Opens users agents self.old.held
-            (record { answer = answered_by result; ledger = self.new.ledger }) self.new.held }
+            (record { answer = result; ledger = self.new.ledger }) self.new.held }
     {
         let opened = ledger::open(users as u64, agents as u64, &mut self.held);
         self.ledger = opened.ledger;
-        checked(opened.answer)
+        opened.answer
     }
 
     // Closes a month; one that is refused changes nothing.
     pub(crate) fn close(&mut self, month: MonthLines<'_>) -> Result<(), Refusal>
         ensures { Closes self.old.ledger self.old.held (lines_of month.entry) self.old.cells self.old.work
-            (record { answer = answered_by result; ledger = self.new.ledger })
+            (record { answer = result; ledger = self.new.ledger })
             self.new.held self.new.cells self.new.work }
     {
         let closed = ledger::close(
             self.ledger,
             &mut self.held,
-            month.line,
-            month.agents,
-            month.users,
-            month.points,
+            month,
             &mut self.cells,
             &mut self.work,
         );
         self.ledger = closed.ledger;
-        checked(closed.answer)
+        closed.answer
     }
 }

@@ -2,9 +2,9 @@
 // ends the run; a refused closing does not, and leaves the ledger as it was.
 use crate::books::Books;
 use crate::months::Lines;
-use crate::old::Refusal;
 use crate::report::Report;
 use monthfile::reader::Reader;
+use rules::Refusal;
 use std::io;
 
 // What ends a run before its input does.

@@ -16,15 +16,14 @@ mod books;
 mod files;
 mod input;
 mod months;
-mod old;
 mod payees;
 mod report;
 mod table;
 
 use crate::amounts::Amounts;
-use crate::old::Refusal;
 use crate::report::Report;
 use crate::table::Table;
+use rules::Refusal;
 use std::{fmt, io};
 
 // Who bills whom.
@@ -67,10 +66,7 @@ fn print_report<P: Report, R: io::Input + io::Print>(rt: &R) -> Result<(), Failu
     let input = input::read_all(rt, &mut buffer).map_err(Failure::Reading)?;
     let printed = match input {
         Some(text) => files::print_months::<P, R>(rt, text),
-        None => rt.println(Refusal {
-            number: 12,
-            place: 0,
-        }),
+        None => rt.println(Refusal::TooManyLines(0)),
     };
     printed.map_err(Failure::Writing)
 }

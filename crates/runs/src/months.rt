@@ -4,10 +4,9 @@ ghost use Rattle.format.specs.Blocks.{slices};
 ghost use Rattle.format.specs.Reading.{reading};
 ghost use Rattle.runs.specs.declared.months.TheConstants.{AGENTS, USERS, POINTS};
 
-use crate::old::{MonthLines, Refusal};
-use monthfile::reader::{Reader, read};
-use monthfile::reading::Reading;
-use rules::{AgentLine, Point, UserLine};
+use monthfile::reader::Reader;
+use records::Line;
+use rules::{Agent, MonthLines, Point, Refusal, User};
 
 // What the programs have room for.
 pub(crate) const AGENTS: usize = 16;
@@ -27,31 +26,19 @@ pub(crate) struct Month<'a> {
 
 #[derive(Drop)]
 pub(crate) struct Lines {
-    agents: [AgentLine; AGENTS],
-    users: [UserLine; USERS],
+    agents: [Agent; AGENTS],
+    users: [User; USERS],
     points: [Point; POINTS],
 }
-
-const NO_POINT: Point = Point {
-    user: 0,
-    tp: 0,
-    tf: 0,
-    dp: 0,
-    df: 0,
-    mp: 0,
-    mf: 0,
-    vp: 0,
-    vf: 0,
-};
 
 impl Lines {
     ghost use Rattle.runs.specs.Runs.{Advances, ReadsNext};
 
     pub(crate) fn new() -> Lines {
         Lines {
-            agents: [[0; 7]; AGENTS],
-            users: [[0; 4]; USERS],
-            points: [NO_POINT; POINTS],
+            agents: [Agent::of([0; 7]); AGENTS],
+            users: [User::of([0; 4]); USERS],
+            points: [Point::of([0; 9]); POINTS],
         }
     }
 
@@ -61,19 +48,14 @@ impl Lines {
             result reader.old reader.new }
         ensures advances { OnOk result (Advances reader.old reader.new) }
     {
-        match read(reader, &mut self.agents, &mut self.users, &mut self.points) {
-            Reading::Refused(number, place) => Err(Refusal {
-                number,
-                place: place as u64,
-            }),
-            Reading::Accepted(file) => Ok(Month {
-                lines: MonthLines {
-                    line: file.line,
-                    agents: &self.agents[..file.agents],
-                    users: &self.users[..file.users],
-                    points: &self.points[..file.points],
-                },
-            }),
-        }
+        let file = reader.read(&mut self.agents, &mut self.users, &mut self.points)?;
+        Ok(Month {
+            lines: MonthLines {
+                line: file.line,
+                agents: &self.agents[..file.agents],
+                users: &self.users[..file.users],
+                points: &self.points[..file.points],
+            },
+        })
     }
 }

@@ -21,7 +21,8 @@ impl fmt::Display for Payee {
     }
 }
 
-// Prints each cell of a table with its payee and its user: the agents' rows in order, then ONS's.
+// Prints each cell of a table with its payee and its user: the agents' rows in order, then ONS's. There is a cell for each, so that `zip`
+// leaves none out.
 pub(crate) fn each_cell<F: Fn(Payee, usize, i64) -> io::Result<()>>(
     agents: usize,
     users: usize,
