@@ -9,8 +9,7 @@ pub fn cycle_month(month: i64) -> i64
     requires { impossible_month month ≡ false }
     ensures { result ≡ cycle_month month }
 {
-    let mm = month % 100;
-    match mm {
+    match month % 100 {
         1 => 7,
         2 => 8,
         3 => 9,
@@ -39,7 +38,8 @@ fn cycle(month: i64) -> i64
     year
 }
 
-// The cycle month that adjustments are settled to when the month closes, `last` being the last closed month, 0 for none.
+// The cycle month that adjustments are settled to when the month closes, `last` being the last closed month, 0 for none, as the
+// ledger has it.
 pub fn settled_to(last: i64, month: i64) -> i64
     requires { MonthAfter last month }
     ensures { result ≡ settled_to last month }

@@ -55,6 +55,7 @@ impl Payees<'_> {
     }
 
     // Writes the agents' credits: their own, and their parts of the balance over pb, which it writes too. Answers the balance.
+    // A column for each amount, since `share::fill` takes and writes columns.
     pub fn agent_credits(&self, pb: &mut [i64], vmant: &mut [i64], vc: &mut [i64]) -> i64
         requires { (length pb.old ≡ length self.now.agents.now)
             × (length vmant.old ≡ length self.now.agents.now)
@@ -74,6 +75,7 @@ impl Payees<'_> {
         requires { length vc.old ≡ length self.now.agents.now + 1 }
         ensures { vc.new ≡ VCsFrom self.now.debits self.now.last self.now.line self.now.agents.now }
     {
+        // room for the most agents: nothing is allocated
         let n = self.agents.len();
         let mut pb = [0; 256];
         let mut vmant = [0; 256];

@@ -3,5 +3,6 @@
 pub mod Laws
 pub mod Joined
 pub mod Limits
+pub mod Signs
 pub mod Learnt
 pub mod Pins

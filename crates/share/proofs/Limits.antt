@@ -1,13 +1,13 @@
 -- The share answers by its limits (`share_limits`), and no two cases of the code's answer stand for the same (`one_answer`).
-use Rattle.std.proofs.Common.{◌≡◌, ℕ, Bool, true, false, cond, ◌||◌, eqb, ℤ, pos, sym, refl, ap, ◌∙◌, true≢false, arith}
+use Rattle.std.proofs.Common.{◌≡◌, ℕ, Bool, true, false, cond, ◌||◌, eqb, Result, Ok, Err, ℤ, pos, sym, refl, ap, ◌∙◌, true≢false, arith}
 use lib.Signed.{lt_z}
 use Rattle.ints.specs.Bridge.{za}
 use Rattle.ints.specs.Range.{outside_false, within_false, or_false, not_below}
 use Rattle.share.specs.Running.{part}
 use Rattle.share.specs.Answer.{bad_amount, bad_total, bad_sums, ShareAnswer, answers, refuses, sharing, answer_of}
 use Rattle.share.specs.Limits.{AmountWithin, TotalWithin, SumsWithin, ShareLimits}
-use Rattle.share.specs.declared.Shared.{Shared}
-use Rattle.share.specs.declared.Shared.TheVariants.{Part, BadAmount, BadTotal, BadSums}
+use Rattle.share.specs.declared.BadShare.{BadShare}
+use Rattle.share.specs.declared.BadShare.TheVariants.{Amount, Total, Sums}
 
 -- ---- the tests and the limits
 module _ {before through W : ℤ} where
@@ -27,9 +27,9 @@ no_part e = let z : ◌≡◌ {A = ℕ} 0 1 = cc in absurd (omega arith)
 no_refusal : {n k : ℕ} {x : ℤ} → answers x ≡ refuses n k → ⊥
 no_refusal e = no_part (sym e)
 
-abbrev place_of : ShareAnswer → ℕ
-place_of (answers x) = 0
-place_of (refuses n k) = k
+abbrev refused_at : ShareAnswer → ℕ
+refused_at (answers x) = 0
+refused_at (refuses n k) = k
 
 abbrev part_of : ShareAnswer → ℤ
 part_of (answers x) = x
@@ -44,17 +44,17 @@ module _ (P b t W : ℤ) where
       record {
         part = λ x. (λ e. absurd (no_part e), λ h. absurd (no h.0));
         amount = (λ e. no, λ h. refl);
-        total = (λ e. let z : ◌≡◌ {A = ℕ} 1 2 = ap place_of e in absurd (omega arith), λ h. absurd (no h.0));
-        sums = (λ e. let z : ◌≡◌ {A = ℕ} 1 3 = ap place_of e in absurd (omega arith), λ h. absurd (no h.0));
+        total = (λ e. let z : ◌≡◌ {A = ℕ} 1 2 = ap refused_at e in absurd (omega arith), λ h. absurd (no h.0));
+        sums = (λ e. let z : ◌≡◌ {A = ℕ} 1 3 = ap refused_at e in absurd (omega arith), λ h. absurd (no h.0));
       }
   by false true z p w s =
       let fine = outside_false _ _ P p in
       let no : TotalWithin W → ⊥ = λ h. true≢false (sym w ∙ within_false _ _ W h) in
       record {
         part = λ x. (λ e. absurd (no_part e), λ h. absurd (no h.1));
-        amount = (λ e. let z : ◌≡◌ {A = ℕ} 2 1 = ap place_of e in absurd (omega arith), λ h. absurd (h fine));
+        amount = (λ e. let z : ◌≡◌ {A = ℕ} 2 1 = ap refused_at e in absurd (omega arith), λ h. absurd (h fine));
         total = (λ e. (fine, no), λ h. refl);
-        sums = (λ e. let z : ◌≡◌ {A = ℕ} 2 3 = ap place_of e in absurd (omega arith), λ h. absurd (no h.1));
+        sums = (λ e. let z : ◌≡◌ {A = ℕ} 2 3 = ap refused_at e in absurd (omega arith), λ h. absurd (no h.1));
       }
   by false false true p w s =
       let fine = outside_false _ _ P p in
@@ -62,8 +62,8 @@ module _ (P b t W : ℤ) where
       let no : SumsWithin b t W → ⊥ = λ h. true≢false (sym s ∙ within_sums h) in
       record {
         part = λ x. (λ e. absurd (no_part e), λ h. absurd (no h.2));
-        amount = (λ e. let z : ◌≡◌ {A = ℕ} 3 1 = ap place_of e in absurd (omega arith), λ h. absurd (h fine));
-        total = (λ e. let z : ◌≡◌ {A = ℕ} 3 2 = ap place_of e in absurd (omega arith), λ h. absurd (h.1 some));
+        amount = (λ e. let z : ◌≡◌ {A = ℕ} 3 1 = ap refused_at e in absurd (omega arith), λ h. absurd (h fine));
+        total = (λ e. let z : ◌≡◌ {A = ℕ} 3 2 = ap refused_at e in absurd (omega arith), λ h. absurd (h.1 some));
         sums = (λ e. (fine, some, no), λ h. refl);
       }
   by false false false p w s =
@@ -82,15 +82,15 @@ module _ (P b t W : ℤ) where
   share_limits = by (bad_amount P) (bad_total W) (bad_sums b t W) refl refl refl
 
 -- ---- which case an answer stands for: so nothing of the code's answer is open
-abbrev case_of : ShareAnswer → Shared
-case_of (answers x) = Part x
-case_of (refuses n k) = cond (eqb k 1) BadAmount (cond (eqb k 2) BadTotal BadSums)
+abbrev case_of : ShareAnswer → Result ℤ BadShare
+case_of (answers x) = Ok x
+case_of (refuses n k) = Err (cond (eqb k 1) Amount (cond (eqb k 2) Total Sums))
 
-case_is : (s : Shared) → case_of (answer_of s) ≡ s
-case_is (Part x) = refl
-case_is BadAmount = refl
-case_is BadTotal = refl
-case_is BadSums = refl
+case_is : (r : Result ℤ BadShare) → case_of (answer_of r) ≡ r
+case_is (Ok x) = refl
+case_is (Err Amount) = refl
+case_is (Err Total) = refl
+case_is (Err Sums) = refl
 
-pub one_answer : (s t : Shared) → answer_of s ≡ answer_of t → s ≡ t
-one_answer s t e = sym (case_is s) ∙ ap case_of e ∙ case_is t
+pub one_answer : (r s : Result ℤ BadShare) → answer_of r ≡ answer_of s → r ≡ s
+one_answer r s e = sym (case_is r) ∙ ap case_of e ∙ case_is s

@@ -1,9 +1,9 @@
 -- The share as holdings call it (paper 01, "The month file", last paragraph): its limits, its refusals, and what C sees.
-use Rattle.std.specs.Prelude.{ℕ, Bool, cond, ◌||◌, ℤ, pos, negsuc, ◌-ℤ◌, int_lt}
+use Rattle.std.specs.Prelude.{ℕ, Bool, cond, ◌||◌, Result, Ok, Err, ℤ, pos, negsuc, ◌-ℤ◌, int_lt}
 use Rattle.ints.specs.Range.{outside}
 use Rattle.share.specs.Running.{part}
-use Rattle.share.specs.declared.Shared.{Shared}
-use Rattle.share.specs.declared.Shared.TheVariants.{Part, BadAmount, BadTotal, BadSums}
+use Rattle.share.specs.declared.BadShare.{BadShare}
+use Rattle.share.specs.declared.BadShare.TheVariants.{Amount, Total, Sums}
 
 -- P is −10^17 to 10^17
 abbrev pub bad_amount : ℤ → Bool
@@ -29,13 +29,17 @@ sharing P before through W =
     (cond (bad_total W) (refuses 5 2)
     (cond (bad_sums before through W) (refuses 5 3) (answers (part P before through W))))
 
+-- the place of a refusal
+abbrev pub place_of : BadShare → ℕ
+place_of Amount = 1
+place_of Total = 2
+place_of Sums = 3
+
 -- what each case of the code's answer stands for: the part, or number and place;
 -- no two stand for the same (`one_answer` in proofs/Limits)
-abbrev pub answer_of : Shared → ShareAnswer
-answer_of (Part x) = answers x
-answer_of BadAmount = refuses 5 1
-answer_of BadTotal = refuses 5 2
-answer_of BadSums = refuses 5 3
+abbrev pub answer_of : Result ℤ BadShare → ShareAnswer
+answer_of (Ok x) = answers x
+answer_of (Err e) = refuses 5 (place_of e)
 
 -- what C sees: the part, or −10^18 less the place
 abbrev pub seen_by_c : ShareAnswer → ℤ

@@ -1,23 +1,25 @@
--- One amount over many weights of one sum w: the amount's size is whole · w + part, and part over w is a fraction of 2^63. For each weight
+-- One amount over many weights of one sum w: its size is whole · w + part, and part over w is a fraction of 2^63. For each weight
 -- t the product with the fraction is the quotient of part × t over w, or one less.
-use Rattle.std.specs.Prelude.{◌≡◌, ℕ, ◌+◌, ◌*◌, ◌/◌, ◌%◌, ◌^◌, ◌<◌, ◌≤◌}
+use Rattle.std.specs.Prelude.{◌≡◌, ℕ, ◌+◌, ◌*◌, ◌/◌, ◌%◌, ◌^◌, ◌<◌, ◌≤◌, ℤ}
 use Rattle.std.proofs.Common.{sym, ap, ap₂, ◌∙◌, ⊎_elim, arith, mul-le-mul_right, mul-lt-mul_of_pos_right, le_of_mul-le-mul_right, div-add-mod', mod-lt, div-lt_iff_lt-mul}
 use Rattle.std.proofs.Math.Arith.{digits_div, digits_mod}
+use Rattle.ints.specs.Bridge.{abs}
 use Rattle.ints.specs.NatSums.{le_or_lt}
 use Rattle.wide.specs.declared.Divided.{Divided}
 use Rattle.wide.specs.Exact.{divided}
-use Rattle.share.specs.declared.Rate.{Rate}
 
 -- f is part × 2^63 over w, rounded down
 pub record Fraction (part w f : ℕ) : Type 0 where
   pub low : f * w ≤ part * 2 ^ 63
   pub high : part * 2 ^ 63 < f * w + w
 
-pub record Rated (w : ℕ) (k : Rate) : Type 0 where
-  pub sum : k.size ≡ k.whole * w + k.part
-  pub less : k.part < w
-  pub fraction : Fraction k.part w k.fraction
-  pub most : k.size ≤ 100000000000000000
+-- an amount and a sum within their limits, and those three numbers of them
+pub record Rated (amount : ℤ) (w whole part fraction : ℕ) : Type 0 where
+  pub most : abs amount ≤ 100000000000000000
+  pub total : w ≤ 100000000000000000
+  pub sum : abs amount ≡ whole * w + part
+  pub less : part < w
+  pub rounded : Fraction part w fraction
 
 -- a quotient and a remainder below the divisor are the only ones
 pub divided_is : (x w q r : ℕ) (d : Divided) → d.quot ≡ q → d.rem ≡ r → q * w + r ≡ x → r < w → d ≡ divided x w

@@ -1,64 +1,112 @@
 // One amount over many weights of one sum. A product of one word, as most are, takes one plain division; for the others w divides once,
 // and each weight takes products only.
-ghost use Rattle.std.specs.Prelude.{◌≡◌, ◌*◌, ◌<◌, ◌≤◌};
+ghost use Rattle.std.specs.Prelude.{◌≡◌, ◌*◌, ◌<◌, ◌≤◌, pos, ◌*ℤ◌};
+ghost use Rattle.ints.specs.Bridge.{abs};
+ghost use Rattle.ints.specs.Rest.{Split};
 ghost use Rattle.wide.specs.Exact.{divided};
-ghost use Rattle.share.specs.Rate.{Fraction, Rated};
+ghost use Rattle.share.specs.Rate.{Rated};
 
-use super::{Rate, scaled};
+use super::scaled;
 use wide::Divided;
 use wide::product::multiply;
 
-// A size over w, divided once for all its weights.
-pub fn rate_of(size: u64, w: u64) -> Rate
-    requires { (0 < w) × (size ≤ 100000000000000000) }
-    ensures { Rated w result × (result.size ≡ size) }
-{
-    let part = size % w;
-    let d = scaled(0x8000_0000_0000_0000, part, w);
-    Rate {
-        size,
-        whole: size / w,
-        part,
-        fraction: d.quot,
-    }
+// p × t over w: the quotient rounded down, and what is left over.
+#[derive(Clone, Copy, Debug, PartialEq, Eq)]
+pub struct Floored {
+    pub quot: i64,
+    pub rem: u64,
 }
 
-// part × t over w: the fraction's product is the quotient or one less, so the low words tell what it leaves.
-fn part_at(part: u64, fraction: u64, t: u64, w: u64) -> Divided
-    requires { Fraction part w fraction × (t ≤ w) × (0 < w) × (w ≤ 100000000000000000) }
-    ensures { result ≡ divided (part * t) w }
-{
-    let q = multiply(fraction, 2 * t);
-    let n = multiply(part, t);
-    let y = multiply(q.high, w);
-    let r = std::num::wrapping_sub_u64(n.low, y.low);
-    if r < w {
-        return Divided {
-            quot: q.high,
-            rem: r,
-        };
-    }
-    Divided {
-        quot: q.high + 1,
-        rem: r - w,
-    }
+// An amount over w, divided once for all its weights: its size is whole times w and part, and part over w is a fraction of 2^63.
+#[derive(Clone, Copy)]
+pub struct Rate {
+    pub amount: i64,
+    pub w: u64,
+    pub whole: u64,
+    pub part: u64,
+    pub fraction: u64,
+    ghost rated: { Rated amount w whole part fraction },
 }
 
-// The size of k times t over w.
-pub fn at_rate(k: Rate, t: u64, w: u64) -> Divided
-    requires { Rated w k × (t ≤ w) × (w ≤ 100000000000000000) }
-    ensures { result ≡ divided (k.size * t) w }
-{
-    let n = multiply(k.size, t);
-    if n.high == 0 {
-        return Divided {
-            quot: n.low / w,
-            rem: n.low % w,
-        };
+impl Rate {
+    pub fn of(amount: i64, w: u64) -> Rate
+        requires amount { abs amount ≤ 100000000000000000 }
+        requires w { (0 < w) × (w ≤ 100000000000000000) }
+        ensures amount { result.amount ≡ amount }
+        ensures w { result.w ≡ w }
+    {
+        let size = amount.unsigned_abs();
+        let part = size % w;
+        let d = scaled(0x8000_0000_0000_0000, part, w);
+        Rate {
+            amount,
+            w,
+            whole: size / w,
+            part,
+            fraction: d.quot,
+        }
     }
-    let d = part_at(k.part, k.fraction, t, w);
-    Divided {
-        quot: k.whole * t + d.quot,
-        rem: d.rem,
+
+    // part × t over w: the fraction's product is the quotient or one less, so the low words tell what it leaves.
+    fn part_at(self, t: u64) -> Divided
+        requires { t ≤ self.w }
+        ensures { result ≡ divided (self.part * t) self.w }
+    {
+        let q = multiply(self.fraction, 2 * t);
+        let n = multiply(self.part, t);
+        let y = multiply(q.high, self.w);
+        let r = n.low.wrapping_sub(y.low);
+        if r < self.w {
+            Divided {
+                quot: q.high,
+                rem: r,
+            }
+        } else {
+            Divided {
+                quot: q.high + 1,
+                rem: r - self.w,
+            }
+        }
+    }
+
+    // The size's t over w.
+    fn size_at(self, t: u64) -> Divided
+        requires { t ≤ self.w }
+        ensures { result ≡ divided (abs self.amount * t) self.w }
+    {
+        let n = multiply(self.amount.unsigned_abs(), t);
+        if n.high == 0 {
+            return Divided {
+                quot: n.low / self.w,
+                rem: n.low % self.w,
+            };
+        }
+        let d = self.part_at(t);
+        Divided {
+            quot: self.whole * t + d.quot,
+            rem: d.rem,
+        }
+    }
+
+    // The amount's t over w: what is below 0 goes by its size, and a remainder takes it one further down.
+    pub fn at(self, t: u64) -> Floored
+        requires { t ≤ self.w }
+        ensures { Split (self.amount *ℤ pos t) self.w result.quot result.rem }
+    {
+        let d = self.size_at(t);
+        let q = d.quot as i64;
+        if self.amount >= 0 {
+            Floored {
+                quot: q,
+                rem: d.rem,
+            }
+        } else if d.rem == 0 {
+            Floored { quot: -q, rem: 0 }
+        } else {
+            Floored {
+                quot: -q - 1,
+                rem: self.w - d.rem,
+            }
+        }
     }
 }

@@ -1,54 +1,47 @@
--- The columns of the users of a month whose tests are passed: what writing their rows asks, and that these are the rows of the statement.
-use Prim.Native.Nat.{ℕ, zero, suc, ◌≤◌}
-use native.Mathlib.Omega.{arith}
-use native.Mathlib.Nat.{le_of_suc-le-suc, not-suc-le-zero}
-use mathlib.Core.Path.{◌≡◌, refl, sym, ap, ◌∙◌}
-use mathlib.Core.List.{List, ◌∷◌}
-use lib.IntN.{ℤ}
-use lib.ListN.{length, take, replicate}
-use Rattle.ints.specs.Sums.{sum_ℤ}
+-- The users of a month whose tests are passed, their charges and their compensation being worked out: what writing their rows asks, and that
+-- these are the rows of the statement.
+use Rattle.std.proofs.Common.{◌≡◌, List, length, take, ℤ, sym, ap, ◌∙◌, to_z-of_z, w64, SFits}
+use Rattle.ints.specs.Words.{back}
+use Rattle.rules.specs.declared.User.{User}
 use Rattle.rules.specs.Lines.{Lines}
 use Rattle.rules.specs.State.{State}
-use Rattle.rules.specs.Charges.{VMEs, CPVs, ns, VDs}
-use Rattle.rules.proofs.Ranged.{ranged}
+use Rattle.rules.specs.Charges.{rets, VMEs, VMEsFrom, CPVs, CPVsFrom, ns_from, ns}
 use Rattle.rules.proofs.Sizes.{length_VMEs, length_VDs, length_new_credits}
 use Rattle.charges.specs.declared.month.Bills.{Bills}
-use Rattle.charges.specs.Month.{Month, Amounts, Billed}
-use Rattle.charges.proofs.Amounts.{user_count, use_count, overrun_count, settleable, first_debits, first_credits}
-use Rattle.statement.specs.Statement.{user_rows}
-use Rattle.statement.specs.Columns.{UserColumns, user_rows_by}
+use Rattle.charges.specs.declared.scan.Sums.{Sums}
+use Rattle.charges.specs.Month.{Settleable, Month, Billed, first_uses, first_overruns}
+use Rattle.charges.proofs.Amounts.{user_count, settleable, charges_are, compensation_is, first_debits, first_credits}
+use Rattle.statement.specs.Statement.{user_rows_of, user_rows}
 
-pub take_same : {A : Type 0} (n m : ℕ) (x : A) → n ≤ m → take n (replicate m x) ≡ replicate n x
-take_same zero zero x h = refl
-take_same zero (suc m) x h = refl
-take_same (suc n) zero x h = absurd (not-suc-le-zero h)
-take_same (suc n) (suc m) x h = ap (λ (l : List _). x ∷ l) (take_same n m x (le_of_suc-le-suc h))
+module _ {users : List User} {s : Sums} {pv : ℤ} {held : List ℤ} {st : State} {l : Lines} (m : Month users s pv held st l) where
+  -- ---- the bills, the first entry for each user
+  module _ {bills : Bills} (b : Billed (length users) st l bills) where
+    pub debit_count : length (take (length users) bills.debits) ≡ length users
+    debit_count = ap length (first_debits m b) ∙ length_VDs st l m.tested.held ∙ sym (user_count m)
 
-module _ {users : List (List ℤ)} {uses over : List ℤ} {pv : ℤ} {held : List ℤ} {st : State} {l : Lines} (m : Month users uses over pv held st l) where
-  pub few : length users ≤ 512
-  few = omega (arith, user_count m, (ranged m.tested).few_users)
+    pub credit_count : length (take (length users) bills.credits) ≡ length users
+    credit_count = ap length (first_credits m b) ∙ length_new_credits st l m.tested.held ∙ sym (user_count m)
 
-  -- the bills of these users
-  pub first_bills :
-      {bills : Bills}
-      → Billed (length users) st l bills
-      → Amounts st l (take (length users) bills.debits) (take (length users) bills.credits) (sum_ℤ (VDs st l))
-  first_bills b = record { debits = first_debits m b; credits = first_credits m b; total = refl }
+  -- ---- VME and CPV, from pv as the machine has it
+  module _ (f : SFits w64 pv) {vme cpv : List ℤ} (charged : vme ≡ VMEsFrom (first_uses users s) (first_overruns users s) (rets users))
+      (compensated : cpv ≡ CPVsFrom (back pv) (first_uses users s)) where
+    vme_is : vme ≡ VMEs l
+    vme_is = charged ∙ charges_are m
 
-  module _ {vd new : List ℤ} (a : Amounts st l vd new (sum_ℤ (VDs st l))) where
-    pub columns : {out : List (List ℤ)} → length out ≡ length users → UserColumns users uses over (VMEs l) (CPVs l) held vd new out
-    columns e =
-        let u = sym (user_count m) in
-        record {
-          use_count = use_count m ∙ u;
-          overrun_count = overrun_count m ∙ u;
-          vme_count = length_VMEs l ∙ u;
-          debit_count = ap length a.debits ∙ length_VDs st l m.tested.held ∙ u;
-          credit_count = ap length a.credits ∙ length_new_credits st l m.tested.held ∙ u;
-          out_count = e;
-          amounts = settleable m;
-        }
+    cpv_is : cpv ≡ CPVs l
+    cpv_is = (rw (to_z-of_z f) at compensated) ∙ compensation_is m
 
-    pub user_rows_are : user_rows_by users uses over (VMEs l) (CPVs l) held vd new ≡ user_rows st l
+    pub vme_count : length vme ≡ length users
+    vme_count = ap length vme_is ∙ length_VMEs l ∙ sym (user_count m)
+
+    pub amounts : Settleable vme cpv held
+    amounts = rw (vme_is, cpv_is) (settleable m)
+
+    pub user_rows_are :
+        {bills : Bills}
+        → Billed (length users) st l bills
+        → user_rows_of (first_uses users s) (first_overruns users s) vme cpv held (ns_from vme cpv held)
+        (take (length users) bills.debits) (take (length users) bills.credits) users
+        ≡ user_rows st l
     unfolding user_rows ns
-    user_rows_are = rw (m.uses_are, m.overruns_are, m.held_are, a.debits, a.credits, m.users_are)
+    user_rows_are b = rw (vme_is, cpv_is, first_debits m b, first_credits m b, m.uses_are, m.overruns_are, m.held_are, m.users_are)

@@ -9,25 +9,21 @@ use contract.Monad.{fact}
 use contract.Running.{Running}
 use prog.Wired.{Wired}
 use denote.Triple.Spec.{Spec, Meets, exits}
-use mathlib.Core.List.{map}
-use Rattle.rules.specs.Lines.{month_lines, point_of}
+use Rattle.rules.specs.Lines.{Lines}
 use Rattle.rules.specs.Verdict.{ByVerdict}
 use Rattle.statement.specs.Statement.{stating_refusal, StatedMonth, NotStated}
 use Rattle.statement.specs.contracts.state as state
 use Rattle.statement.proofs.state.Symbol as state_code
 use Rattle.statement.proofs.state.Met as state_met
-use Rattle.statement.specs.contracts.state_lines as lines
-use Rattle.statement.proofs.state_lines.Symbol as lines_code
-use Rattle.statement.proofs.state_lines.Met as lines_met
 
 module _ {M : Type 1} {𝓤 : Ura M} (𝓛 : Logic 𝓤) (𝓜 : Model 𝓤 𝓛.H) (𝓡 : Running 𝓤 𝓛.H 𝓜) where
-  -- state(ledger, held, line, agents, users, points, point_rows, user_rows, payee_rows)
+  -- state(ledger, held, month, point_rows, user_rows, payee_rows)
   abbrev pub state_promise : Spec 𝓤 state.signature
   state_promise κs a =
       let held = a.1.0.now in
-      let b = a.1.1 in
-      let l = month_lines b.0 b.1.0.now b.1.1.0.now b.1.1.1.0.now in
-      let rows = b.1.1.1.1 in
+      let m = a.1.1.0 in
+      let l : Lines = record { line = m.line; agents = m.agents.now; users = m.users.now; points = m.points.now } in
+      let rows = a.1.1.1 in
       let points = rows.0.now in
       let users = rows.1.0.now in
       let payees = rows.1.1.0.now in
@@ -37,7 +33,7 @@ module _ {M : Type 1} {𝓤 : Ura M} (𝓛 : Logic 𝓤) (𝓜 : Model 𝓤 𝓛
         ensures = λ g r.
             exits 𝓛 state.signature (state.ended).kept κs a
             (λ e.
-            let left = e.1.1.1.1.1.1 in
+            let left = e.1.1.1 in
             let points' = left.0.now in
             let users' = left.1.0.now in
             let payees' = left.1.1.0.now in
@@ -49,32 +45,3 @@ module _ {M : Type 1} {𝓤 : Ura M} (𝓛 : Logic 𝓤) (𝓜 : Model 𝓤 𝓛
 
   pub state_meets : Wired 𝓡.env state_code.code → Meets 𝓛 state.signature (𝓡.run (𝓡.env state_code.name)) state_promise
   state_meets = state_met.met 𝓤 𝓛 𝓜 𝓡
-
-  -- state_lines, the same of points as lines
-  abbrev pub lines_promise : Spec 𝓤 lines.signature
-  lines_promise κs a =
-      let held = a.1.0.now in
-      let b = a.1.1 in
-      let l = month_lines b.0 b.1.0.now b.1.1.0.now (map point_of b.1.1.1.0.now) in
-      let rows = b.1.1.1.1 in
-      let points = rows.0.now in
-      let users = rows.1.0.now in
-      let payees = rows.1.1.0.now in
-      record {
-        ghost = Unit {0};
-        requires = λ g. emp 𝓤;
-        ensures = λ g r.
-            exits 𝓛 lines.signature (lines.ended).kept κs a
-            (λ e.
-            let left = e.1.1.1.1.1.1 in
-            let points' = left.0.now in
-            let users' = left.1.0.now in
-            let payees' = left.1.1.0.now in
-            fact 𝓤
-            (ByVerdict (stating_refusal a.0 held points users payees l)
-            (StatedMonth a.0 held l points users payees r points' users' payees')
-            (NotStated points users payees r points' users' payees')));
-      }
-
-  pub lines_meets : Wired 𝓡.env lines_code.code → Meets 𝓛 lines.signature (𝓡.run (𝓡.env lines_code.name)) lines_promise
-  lines_meets = lines_met.met 𝓤 𝓛 𝓜 𝓡

@@ -6,24 +6,25 @@ use native.Mathlib.Omega.{arith}
 use lib.IntN.{ℤ}
 use lib.ListN.{length, drop, length-map, length-append}
 use lib.Seq.{drop_at, length-take-le}
-use Rattle.rules.specs.declared.Answer.TheVariants.{Accepted}
+use Rattle.std.specs.Prelude.{Ok}
+use Rattle.rules.specs.declared.Agent.{Agent}
 use Rattle.rules.specs.Verdict.{Verdict, accepted}
-use Rattle.rules.specs.Lines.{Agent}
 use Rattle.rules.specs.Credits.{VMANTs, agent_VCs}
 use Rattle.ints.specs.Sums.{sum_ℤ}
 use Rattle.rules.specs.Lists.{length_each_from}
 use Rattle.rules.specs.State.{State}
 use Rattle.rules.specs.Direct.{ongs}
 use Rattle.rules.specs.Refusals.{refusal}
-use Rattle.rules.specs.Calls.{verdict_of, state_of}
+use Rattle.rules.specs.Answers.{verdict_of}
+use Rattle.rules.specs.Calls.{state_of}
 use Rattle.rules.proofs.Passed.{Passed, slices_accepted, passed}
 use Rattle.rules.proofs.Promise.{answers}
 use Rattle.rules.proofs.Limits.{Agrees, agrees_when, agrees_before}
 use Rattle.rules.proofs.LimitsTests.{long_enough}
 use Rattle.rules.proofs.LimitsMonth.{month_agrees}
 use Rattle.rules.proofs.Demand1.{answered, same_length}
-use Rattle.statement.specs.declared.Stated.{Stated}
-use Rattle.statement.specs.Statement.{RowRooms, short_rooms, short_of, point_row, point_rows, user_rows_of, user_rows, agent_rows_of, ons_row, payee_rows_from}
+use Rattle.statement.specs.declared.RowRooms.{RowRooms}
+use Rattle.statement.specs.Statement.{short_rooms, short_of, point_row, point_rows, user_rows_of, user_rows, agent_rows_of, ons_row, payee_rows_from}
 use Rattle.statement.specs.Statement.{payee_rows, StatedMonth, States}
 use Rattle.statement.specs.Demand1.{row_rooms, StateCall, Beyond, Demand1Stating}
 
@@ -35,7 +36,7 @@ rooms_agree s n points =
     (λ h. agrees_before _ _ (agrees_when _ 2 8 (long_enough _ _)) (λ h. agrees_when _ 2 9 (long_enough _ _))))
 
 -- rows written over the front of a slice
-beyond : (n : ℕ) (rows lent left : List (List ℤ)) → length rows ≡ n → n ≤ length lent → left ≡ rows ++ drop n lent → Beyond n lent left
+beyond : {A : Type 0} (n : ℕ) (rows lent left : List A) → length rows ≡ n → n ≤ length lent → left ≡ rows ++ drop n lent → Beyond n lent left
 beyond n rows lent left e h w =
     record { same = ap (drop n) w ∙ drop_at rows (drop n lent) n e; same_length = ap length w ∙ same_length n rows lent e h }
 
@@ -45,7 +46,7 @@ agent_count last month vmant vc agents = length_each_from 0 _ agents
 
 module _ (c : StateCall) where
   abbrev pub Promised : Type 0
-  Promised = States c.ledger c.held c.lines c.points c.users c.payees c.stated c.points_left c.users_left c.payees_left
+  Promised = States c.ledger c.held c.lines c.points c.users c.payees c.answer c.points_left c.users_left c.payees_left
 
   abbrev s : State
   s = state_of c.ledger c.held
@@ -74,15 +75,15 @@ module _ (c : StateCall) where
   rooms = rooms_agree s n (length c.lines.points)
 
   module _ (o : Promised) where
-    verdict : verdict_of c.stated.answer ≡ refusal s short c.lines
-    verdict = answers (λ d. ap (λ (x : Stated). x.answer) d.stated) (λ n p b. ap (λ (x : Stated). x.answer) b.stated) o
+    verdict : verdict_of c.answer ≡ refusal s short c.lines
+    verdict = answers c.answer (λ d. ap verdict_of d.stated) (λ n p b. b.answer) o
 
-    module _ (a : c.stated.answer ≡ Accepted) where
+    module _ (a : verdict_of c.answer ≡ accepted) where
       kept : refusal s short c.lines ≡ accepted
-      kept = sym verdict ∙ ap verdict_of a
+      kept = sym verdict ∙ a
 
       pub accepted_so :
-          StatedMonth c.ledger c.held c.lines c.points c.users c.payees c.stated c.points_left c.users_left c.payees_left
+          StatedMonth c.ledger c.held c.lines c.points c.users c.payees c.answer c.points_left c.users_left c.payees_left
       accepted_so = o.where_accepted kept
 
       room : (row_rooms s n (length c.lines.points)).keeps
@@ -98,8 +99,8 @@ module _ (c : StateCall) where
     demand_1 = record {
       answer = answered (month_agrees s (row_rooms s n (length c.lines.points)) short c.lines rooms) verdict;
       unchanged = λ n p a.
-          let b = o.where_refused n p (sym verdict ∙ ap verdict_of a) in
-          record { balance = ap (λ (x : Stated). x.smse) b.stated; points = b.rows_of_points; users = b.rows_of_users; payees = b.rows_of_payees };
+          let b = o.where_refused n p (sym verdict ∙ a) in
+          record { points = b.rows_of_points; users = b.rows_of_users; payees = b.rows_of_payees };
       points = λ a. beyond _ (point_rows c.lines) _ _ point_count (room a).1.0 (accepted_so a).rows_of_points;
       users = λ a. beyond _ (user_rows s c.lines) _ _ user_count (omega (arith, (room a).1.1.0, (month a).users)) (accepted_so a).rows_of_users;
       payees = λ a. beyond _ (payee_rows s c.lines) _ _ payee_count (omega (arith, (room a).1.1.1, (month a).agents)) (accepted_so a).rows_of_payees;

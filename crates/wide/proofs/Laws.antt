@@ -1,10 +1,10 @@
 -- Quotient and remainder are settled by what they add up to; and the three cases of `ratio`.
-use Rattle.std.proofs.Common.{◌≡◌, ℕ, ◌+◌, ◌*◌, ◌/◌, ◌%◌, ◌^◌, ◌<◌, ◌≤◌, sym, refl, ap, ◌∙◌, ap₂, mod-lt, div-lt_iff_lt-mul, div-add-mod', arith, le-ltb, lt-ltb, ne_eqb}
+use Rattle.std.proofs.Common.{◌≡◌, ℕ, ◌+◌, ◌*◌, ◌/◌, ◌%◌, ◌^◌, ◌<◌, ◌≤◌, sym, refl, ap, ◌∙◌, ap₂, mod-lt, div-lt_iff_lt-mul, div-add-mod', arith, le-ltb, lt-ltb, ne_eqb, Ok, Err}
 use mathlib.Core.Path.{subst⁻¹}
 use lib.Arith.{digits_div, digits_mod}
 use Rattle.wide.specs.declared.Words.{Words}
 use Rattle.wide.specs.declared.Divided.{Divided}
-use Rattle.wide.specs.declared.Ratio.TheVariants.{Exact, Over, ByZero}
+use Rattle.wide.specs.declared.NoRatio.TheVariants.{Over, ByZero}
 use Rattle.wide.specs.Exact.{words, divided, ratio}
 
 module _ (q d r n : ℕ) (whole : q * d + r ≡ n) (small : r < d) where
@@ -35,14 +35,14 @@ next_digits B v x d q1 r1 q0 r0 e f = omega (arith, ap (λ (n : ℕ). n * B) e)
 pub words_is : (h l n : ℕ) → h * 2 ^ 64 + l ≡ n → l < 2 ^ 64 → ◌≡◌ {A = Words} (record { high = h; low = l }) (words n)
 words_is h l n e s = ap₂ {C = Words} (λ (x y : ℕ). record { high = x; low = y }) (quot_is h (2 ^ 64) l n e s) (rem_is h (2 ^ 64) l n e s)
 
-pub ratio_by_zero : (a b : ℕ) → ratio a b 0 ≡ ByZero
+pub ratio_by_zero : (a b : ℕ) → ratio a b 0 ≡ Err ByZero
 unfolding ratio
 ratio_by_zero a b = refl
 
-pub ratio_exact : (a b c : ℕ) → 0 < c → a * b / c < 2 ^ 64 → ratio a b c ≡ Exact (divided (a * b) c)
+pub ratio_exact : (a b c : ℕ) → 0 < c → a * b / c < 2 ^ 64 → ratio a b c ≡ Ok (divided (a * b) c)
 unfolding ratio
 ratio_exact a b c h k = rw (ne_eqb c 0 (λ e. omega arith), lt-ltb (a * b / c) (2 ^ 64) k)
 
-pub ratio_over : (a b c : ℕ) → 0 < c → 2 ^ 64 ≤ a * b / c → ratio a b c ≡ Over
+pub ratio_over : (a b c : ℕ) → 0 < c → 2 ^ 64 ≤ a * b / c → ratio a b c ≡ Err Over
 unfolding ratio
 ratio_over a b c h k = rw (ne_eqb c 0 (λ e. omega arith), le-ltb (a * b / c) (2 ^ 64) k)

@@ -13,16 +13,15 @@ pub struct Words {
 }
 
 // A quotient and its remainder.
-#[derive(Clone, Copy)]
+#[derive(Clone, Copy, Debug, PartialEq, Eq)]
 pub struct Divided {
     pub quot: u64,
     pub rem: u64,
 }
 
-// a × b over c.
-#[derive(Clone, Copy)]
-pub enum Ratio {
-    Exact(Divided),
+// Why a × b over c has no quotient of one word.
+#[derive(Clone, Copy, Debug, PartialEq, Eq)]
+pub enum NoRatio {
     // the quotient passes 64 bits
     Over,
     // c is 0

@@ -20,11 +20,11 @@ fn high_half(x: u64) -> u64
 fn add(x: u64, y: u64) -> Words
     ensures { result ≡ words (x + y) }
 {
-    let low = std::num::wrapping_add_u64(x, y);
-    if low < x {
-        return Words { high: 1, low };
+    let low = x.wrapping_add(y);
+    Words {
+        high: u64::from(low < x),
+        low,
     }
-    Words { high: 0, low }
 }
 
 // a × b.

@@ -3,7 +3,7 @@ ghost use Rattle.std.specs.Prelude.{◌≡◌, ◌+◌, ◌*◌, ◌/◌, ◌%�
 ghost use Rattle.wide.specs.Exact.{divided, ratio};
 
 use super::product::multiply;
-use super::{Divided, Ratio, Words};
+use super::{Divided, NoRatio, Words};
 
 // One step: h × 2^29 + d over v, for a v with its top bit set. q, by v's upper 35 bits, is too large by 1 at most: m is what it
 // leaves of the dividend, and p what v's lower 29 bits take of that. The wide divisor keeps the machine's division of one kind.
@@ -16,14 +16,15 @@ fn digit(h: u64, d: u64, v: u64) -> Divided
     let m = (h % v1) * 0x2000_0000 + d;
     let p = q * (v & 0x1fff_ffff);
     if p <= m {
-        return Divided {
+        Divided {
             quot: q,
             rem: m - p,
-        };
-    }
-    Divided {
-        quot: q - 1,
-        rem: v - (p - m),
+        }
+    } else {
+        Divided {
+            quot: q - 1,
+            rem: v - (p - m),
+        }
     }
 }
 
@@ -66,7 +67,7 @@ fn divide(n: Words, c: u64) -> Divided
     requires { n.high < c }
     ensures { result ≡ divided (n.high * 2 ^ 64 + n.low) c }
 {
-    let s = u64::leading_zeros(c);
+    let s = c.leading_zeros();
     let high = (n.high << s) + ((n.low >> 1) >> (63 - s));
     let r = normal(high, n.low << s, c << s);
     Divided {
@@ -76,22 +77,22 @@ fn divide(n: Words, c: u64) -> Divided
 }
 
 // a × b over c. A product of one word, as most are, takes one plain division.
-pub fn of_product(a: u64, b: u64, c: u64) -> Ratio
+pub fn of_product(a: u64, b: u64, c: u64) -> Result<Divided, NoRatio>
     ensures { result ≡ ratio a b c }
 {
     if c == 0 {
-        return Ratio::ByZero;
+        return Err(NoRatio::ByZero);
     }
     let n = multiply(a, b);
     if n.high == 0 {
-        return Ratio::Exact(Divided {
+        return Ok(Divided {
             quot: n.low / c,
             rem: n.low % c,
         });
     }
     if n.high < c {
-        Ratio::Exact(divide(n, c))
+        Ok(divide(n, c))
     } else {
-        Ratio::Over
+        Err(NoRatio::Over)
     }
 }

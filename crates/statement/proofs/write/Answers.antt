@@ -1,9 +1,5 @@
 -- The rows of the points, of the users and of the payees, one after the other.
-use mathlib.Core.Path.{◌∙◌}
-use borrow.Author.Rules.{rules}
-use mir.Syntax.{w64}
-use mir.Val.{SFits}
-use mir.Facts.{to_z-of_z}
+use Rattle.std.proofs.Common.{◌∙◌, rules, to_z-of_z, w64, SFits}
 use Rattle.statement.specs.Statement.{point_rows}
 use Rattle.statement.proofs.Writing.{in_range, month, payable, direct_summable, direct_within}
 use Rattle.statement.proofs.write.Goals as goal
@@ -20,29 +16,33 @@ state_users-requires c =
     let pv : SFits w64 c.pv_total-pv.result = search rules in
     rw (to_z-of_z pv, c.pv_total-pv.ensures) ((_, _, month w, w.billed), w.user_count)
 
-pub total-direct-requires : goal.total-direct-requires
-total-direct-requires c = direct_summable c.requires.2
+pub invariant_of-payees : goal.invariant_of-payees
+invariant_of-payees c =
+    let total : SFits w64 c.args.judged.now.bills.total = search rules in
+    let last : SFits w64 c.args.ledger.month = search rules in
+    record { payable = rw (to_z-of_z total, to_z-of_z last) (payable c.requires.2) }
+
+pub total-requires : goal.total-requires
+total-requires c = direct_summable c.requires.2
 
 pub state_payees-requires : goal.state_payees-requires
 state_payees-requires c =
     let w = c.requires.2 in
-    let total : SFits w64 c.args.bills.total = search rules in
-    let last : SFits w64 c.args.ledger.month = search rules in
-    let direct : SFits w64 c.total-direct.result = search rules in
-    rw (to_z-of_z total, to_z-of_z last, to_z-of_z direct, c.total-direct.ensures) (payable w, direct_within w, w.payee_count)
+    let direct : SFits w64 c.total.result = search rules in
+    rw (to_z-of_z direct, c.total.ensures) (direct_within w, w.payee_count)
 
 pub returns : goal.returns
 unfolding point_rows
 returns c st short w =
     let pv : SFits w64 c.pv_total-pv.result = search rules in
-    let total : SFits w64 c.args.bills.total = search rules in
+    let total : SFits w64 c.args.judged.now.bills.total = search rules in
     let last : SFits w64 c.args.ledger.month = search rules in
-    let direct : SFits w64 c.total-direct.result = search rules in
+    let direct : SFits w64 c.total.result = search rules in
     let balance : SFits w64 c.state_payees.result = search rules in
-    let e = rw (to_z-of_z total, to_z-of_z last, to_z-of_z direct, c.total-direct.ensures, w.last_is, w.billed.total) at c.state_payees.ensures in
+    let payees = rw (to_z-of_z total, to_z-of_z last, to_z-of_z direct, c.total.ensures, w.last_is, w.billed.total) at c.state_payees.ensures in
     record {
-      SMSE_is = to_z-of_z balance ∙ e.SMSE;
+      SMSE_is = to_z-of_z balance ∙ payees.SMSE;
       points = c.rows.ensures;
       users = c.state_users.ensures st _ (rw (to_z-of_z pv, c.pv_total-pv.ensures) (month w)) w.billed;
-      payees = e.rows_are;
+      payees = payees.rows_are;
     }

@@ -4,6 +4,12 @@ use Rattle.rules.specs.Credits.{VMPA}
 use Rattle.rules.proofs.BoundsAgent.{due_bounds}
 use Rattle.credits.proofs.agent.vmpa.Goals as goal
 
+pub overflow_mul-pa : goal.overflow_mul-pa
+overflow_mul-pa c = simp (to_z-of_z, c.ranges.c, c.ranges.pa) (due_bounds c.requires.0 c.requires.1).due.fits
+
+pub overflow_mul-pa-2 : goal.overflow_mul-pa-2
+overflow_mul-pa-2 c = simp (to_z-of_z, c.ranges.b, c.ranges.pa) (due_bounds c.requires.0 c.requires.1).due_before.fits
+
 pub overflow_sub-result : goal.overflow_sub-result
 overflow_sub-result c =
     let r = c.ranges in

@@ -1,17 +1,27 @@
--- The arrays are lent as long as there are agents.
-use Prim.Native.Nat.{◌≤◌}
-use lib.ListN.{length, length-map}
-use lib.Seq.{length-take-le}
-use mir.Facts.{to_z-of_z}
+-- ONS's row is the one after those of the agents.
+use Rattle.std.proofs.Common.{List, [], ◌∷◌, ◌++◌, ◌+ℤ◌, ap, ◌∙◌, arith, rules, to_z-of_z, w64, SFits, length-take-le}
+use Rattle.ints.specs.Bridge.{za, add#}
+use Rattle.ints.specs.Fill.{set_last}
+use Rattle.rules.proofs.BoundsAgent.{amount}
+use Rattle.statement.specs.declared.PayeeRow.{PayeeRow}
+use Rattle.statement.specs.Statement.{ons_row, payee_rows_from}
 use Rattle.statement.proofs.payees.state_payees.Goals as goal
 
-pub work_out-requires : goal.work_out-requires
-work_out-requires c =
-    let few : length c.args.agents.now ≤ 256 = rw length-map at c.requires.0.lines.few in (
-      rw (to_z-of_z c.ranges.debits, to_z-of_z c.ranges.last) c.requires.0,
-      rw (to_z-of_z c.ranges.direct) c.requires.1,
-      length-take-le _ _ few,
-      length-take-le _ _ few,
-      length-take-le _ _ few,
-      c.requires.2,
-    )
+pub returns : goal.returns
+unfolding payee_rows_from
+returns c =
+    let p = c.args.payees.now in
+    let b = c.agent_credits-balance.ensures in
+    let balance : SFits w64 c.agent_credits-balance.result = search rules in
+    let last : SFits w64 p.last = search rules in
+    let month : SFits w64 p.line.month = search rules in
+    let ons : SFits w64 p.line.ons = search rules in
+    let vc : SFits w64 (p.line.ons +ℤ c.args.direct) = omega (za, p.payable.fee, c.requires.0, add# p.line.ons c.args.direct) in
+    let rows = rw (to_z-of_z last, to_z-of_z month, b.VMANTs, b.VCs) at c.rows.ensures in
+    record {
+      SMSE = to_z-of_z balance ∙ b.SMSE;
+      rows_are =
+          rw (to_z-of_z ons, to_z-of_z c.ranges.direct, to_z-of_z vc)
+          (set_last c.rows.new.out c.args.out.now _ (ons_row p.line.ons c.args.direct) c.requires.1 (c.rows.auto.out ∙ length-take-le _ _ (omega arith))
+          ∙ ap (λ (l : List PayeeRow). l ++ ons_row p.line.ons c.args.direct ∷ []) rows);
+    }

@@ -28,13 +28,6 @@ expand B a1 a0 b1 b0 = omega arith
 high_fits : (x m l : ℕ) → x ≤ K → m ≤ 2 * K → l ≤ 1 → x + m / 2 ^ 32 + l < 2 ^ 64
 high_fits x m l h k j = omega arith
 
--- the sums on the way to the high word are no larger
-two_of_four : (p q r s n : ℕ) → p + q + r + s < n → p + q < n
-two_of_four p q r s n h = omega arith
-
-three_of_four : (p q r s n : ℕ) → p + q + r + s < n → p + q + r < n
-three_of_four p q r s n h = omega arith
-
 -- the low column of a product, and its high word
 abbrev column : ℕ → ℕ → ℕ
 column m w = w + (m % 2 ^ 64 * 2 ^ 32) % 2 ^ 64
@@ -88,72 +81,6 @@ module _ (a b : ℕ) (a-fits : a < 2 ^ 64) (b-fits : b < 2 ^ 64) where
       total (top a b) (across a b) (bottom a b) top_le across_le bottom_le
       ∙ expand (2 ^ 32) (a / 2 ^ 32) (a % 2 ^ 32) (b / 2 ^ 32) (b % 2 ^ 32)
       ∙ ap₂ ◌*◌ (div-add-mod' a (2 ^ 32)) (div-add-mod' b (2 ^ 32))
-
-pub overflow_mul-a0 : goal.overflow_mul-a0
-overflow_mul-a0 c = omega (arith, half_product c.low_half-a0.result c.high_half-b1.result (omega arith) (omega arith))
-
-pub overflow_mul-a1 : goal.overflow_mul-a1
-overflow_mul-a1 c = omega (arith, half_product c.high_half-a1.result c.low_half-b0.result (omega arith) (omega arith))
-
-pub overflow_mul-a0-2 : goal.overflow_mul-a0-2
-overflow_mul-a0-2 c = omega (
-  arith,
-  half_product c.low_half-a0.result c.low_half-b0.result (omega arith)
-      (omega arith),
-)
-
-pub overflow_mul-result : goal.overflow_mul-result
-overflow_mul-result c = omega (
-  arith,
-  half_product c.high_half-a1.result c.high_half-b1.result
-      (omega arith) (omega arith),
-)
-
-pub overflow_add-result : goal.overflow_add-result
-overflow_add-result c =
-    let n = c.before.before.before in
-    let h = n.before in
-    let s = h.before.before.before.before in
-    simp (
-      n.add-middle.ensures,
-      h.high_half-b1.ensures,
-      h.low_half-b0.ensures,
-      h.high_half-a1.ensures,
-      h.low_half-a0.ensures,
-    )
-    (record { fits = two_of_four _ _ _ _ _ (high_word s.args.a s.args.b s.ranges.a.fits s.ranges.b.fits) })
-
-pub overflow_add-result-2 : goal.overflow_add-result-2
-overflow_add-result-2 c =
-    let n = c.before.before.before.before in
-    let h = n.before in
-    let s = h.before.before.before.before in
-    simp (
-      c.high_half.ensures,
-      n.add-middle.ensures,
-      h.high_half-b1.ensures,
-      h.low_half-b0.ensures,
-      h.high_half-a1.ensures,
-      h.low_half-a0.ensures,
-    )
-    (record { fits = three_of_four _ _ _ _ _ (high_word s.args.a s.args.b s.ranges.a.fits s.ranges.b.fits) })
-
-pub overflow_add-result-3 : goal.overflow_add-result-3
-overflow_add-result-3 c =
-    let d = c.before in
-    let n = d.before.before.before.before in
-    let h = n.before in
-    let s = h.before.before.before.before in
-    simp (
-      d.high_half.ensures,
-      d.add-low.ensures,
-      n.add-middle.ensures,
-      h.high_half-b1.ensures,
-      h.low_half-b0.ensures,
-      h.high_half-a1.ensures,
-      h.low_half-a0.ensures,
-    )
-    (record { fits = high_word s.args.a s.args.b s.ranges.a.fits s.ranges.b.fits })
 
 pub returns : goal.returns
 returns c =

@@ -79,29 +79,14 @@ step c =
       d_lt = c.requires.2;
     }
 
-pub overflow_mul-m : goal.overflow_mul-m
-overflow_mul-m c = omega (arith, left_lt (step c), c.ranges.v)
-
-pub overflow_add-m : goal.overflow_add-m
-overflow_add-m c = omega (arith, left_lt (step c), c.ranges.v)
-
-pub overflow_mul-p : goal.overflow_mul-p
-overflow_mul-p c = omega (arith, p_lt (step c))
-
 pub returns-then-p-m : goal.returns-then-p-m
 returns-then-p-m c =
     let a = c.args in
     let s = step c.before in
     divided_is (a.h / (a.v / 2 ^ 29)) a.v _ (a.h * 2 ^ 29 + a.d) (exact s c.if-p-m.true) (lt_of_le_of_lt (sub-le _ _) (left_lt s))
 
-pub overflow_sub-result-2 : goal.overflow_sub-result-2
-overflow_sub-result-2 c = not_none _ (bit_and c.args.v 536870911) _ c.if-p-m.false
-
-pub overflow_sub-result-4 : goal.overflow_sub-result-4
-overflow_sub-result-4 c = passes _ _ _ (p_lt (step c.before)) c.requires.0
-
-pub returns : goal.returns
-returns c =
+pub returns-else-p-m : goal.returns-else-p-m
+returns-else-p-m c =
     let a = c.args in
     let s = step c.before in
     let q = a.h / (a.v / 2 ^ 29) in

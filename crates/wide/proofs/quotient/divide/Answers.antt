@@ -13,9 +13,6 @@ record Up (c S T : ℕ) : Type 0 where
   low : 2 ^ 63 ≤ c * S
   high : c * S < 2 ^ 64
 
-short : (c : ℕ) → 0 < c → c < 2 ^ 64 → count_leading_zeros 64 c < 64
-short c h k = let t = leading_top 64 c h k in omega (arith, t.1)
-
 -- the count of leading zeros does that
 up : (c : ℕ) → 0 < c → c < 2 ^ 64 → Up c (2 ^ count_leading_zeros 64 c) (2 ^ (63 - count_leading_zeros 64 c))
 up c h k =
@@ -80,12 +77,6 @@ module _ (n c S v q r : ℕ) (S_pos : 0 < S) (v_is : v ≡ c * S) (whole : q * v
 positive : (c : Start) → 0 < c.args.c
 positive c = omega arith
 
-shift_lt : (c : Start) → count_leading_zeros 64 c.args.c < 64
-shift_lt c = short c.args.c (positive c) c.ranges.c.fits
-
-shift_fits : (c : Start) → Fits w64 (count_leading_zeros 64 c.args.c)
-shift_fits c = omega (arith, shift_lt c)
-
 low_fits : (c : Start) → c.args.n.low < 2 ^ 64
 low_fits c = let f : Fits w64 c.args.n.low = search rules in f.fits
 
@@ -112,30 +103,3 @@ returns c =
     divided_is _ s.args.c _ n
     (back n s.args.c _ _ _ _ S_pos w.v_is (t.whole ∙ w.all))
     (back_lt n s.args.c _ _ _ _ S_pos w.v_is (t.whole ∙ w.all) t.small)
-
-pub overflow_cast-high : goal.overflow_cast-high
-overflow_cast-high c = shift_fits c
-
-pub overflow_shl-high : goal.overflow_shl-high
-overflow_shl-high c = shift_lt c.before
-
-pub overflow_sub-high : goal.overflow_sub-high
-overflow_sub-high c = omega (arith, shift_lt c.before.before)
-
-pub overflow_cast-s : goal.overflow_cast-s
-overflow_cast-s c = shift_fits c.before.before
-
-pub overflow_shl-n : goal.overflow_shl-n
-overflow_shl-n c = shift_lt c.before.before.before
-
-pub overflow_cast-s-2 : goal.overflow_cast-s-2
-overflow_cast-s-2 c = shift_fits c.before.before.before
-
-pub overflow_shl-c : goal.overflow_shl-c
-overflow_shl-c c = shift_lt c.before.before.before
-
-pub overflow_cast-result : goal.overflow_cast-result
-overflow_cast-result c = shift_fits c.before.before.before.before
-
-pub overflow_shr-result : goal.overflow_shr-result
-overflow_shr-result c = shift_lt c.before.before.before.before.before

@@ -1,8 +1,7 @@
 -- A short quotient is two digits of the two words as they stand; a longer one is that of all but the last 6 bits, and then of those.
-use Rattle.std.proofs.Common.{◌≡◌, ℕ, ◌+◌, ◌*◌, ◌/◌, ◌^◌, ◌<◌, ◌≤◌, ap, ◌∙◌, arith}
+use Rattle.std.proofs.Common.{◌≡◌, ℕ, ◌+◌, ◌*◌, ◌/◌, ◌^◌, ◌<◌, ◌≤◌, ◌∙◌, arith}
 use lib.Bits.{bit_and, and_mask}
-use mir.Facts.{Fits-cat, Fits-shl}
-use Rattle.wide.specs.Exact.{divided}
+use mir.Facts.{Fits-cat}
 use Rattle.wide.proofs.Laws.{Divides, divides, quot_lt, next_digits, divided_is}
 use Rattle.wide.proofs.quotient.normal.Goals as goal
 use Rattle.wide.proofs.quotient.normal.Goals.{After-two_digits-first, After-two_digits-second, Then-high-v}
@@ -13,9 +12,6 @@ positive v h = omega arith
 -- ---- a short quotient
 top_lt : (high low v : ℕ) → high < v / 64 → low < 2 ^ 64 → high * 64 + low / 2 ^ 58 < v
 top_lt high low v h k = omega arith
-
-rest_lt : (low : ℕ) → bit_and low 288230376151711743 < 2 ^ 58
-rest_lt low = omega (arith, and_mask low 58)
 
 whole : (high low : ℕ) → (high * 64 + low / 2 ^ 58) * 2 ^ 58 + bit_and low 288230376151711743 ≡ high * 2 ^ 64 + low
 whole high low = omega (arith, and_mask low 58)
@@ -36,17 +32,9 @@ left_lt r low v h = omega (arith, left r low, and_mask low 6)
 both : (high low : ℕ) → (high * 2 ^ 58 + low / 64) * 64 + bit_and low 63 ≡ high * 2 ^ 64 + low
 both high low = omega (arith, and_mask low 6)
 
-upper_lt : (r v : ℕ) → r < v → r / 2 ^ 52 < v
-upper_lt r v h = omega arith
-
 -- ---- at the places of the code
 short : (c : Then-high-v) → let a = c.args in a.high * 64 + a.low / 2 ^ 58 < a.v
 short c = top_lt c.args.high c.args.low c.args.v c.if-high-v.true c.ranges.low.fits
-
-pub returns-then-high-v : goal.returns-then-high-v
-returns-then-high-v c =
-    let a = c.args in
-    c.two_digits.ensures ∙ ap (λ (n : ℕ). divided n a.v) (whole a.high a.low)
 
 first : (c : After-two_digits-first) → let a = c.args in Divides (a.high * 2 ^ 58 + a.low / 64) a.v c.two_digits-first.result
 first c = divides (positive c.args.v c.requires.0) c.two_digits-first.ensures
@@ -56,19 +44,6 @@ first_lt c =
     let s = c.before.before in
     quot_lt (2 ^ 58) (positive s.args.v s.requires.0) c.two_digits-first.ensures
     (most_lt s.args.high s.args.low s.args.v s.requires.1 s.ranges.low.fits)
-
-pub overflow_mul-first : goal.overflow_mul-first
-overflow_mul-first c = omega (arith, and_mask c.two_digits-first.result.rem 52)
-
-pub overflow_add-first : goal.overflow_add-first
-overflow_add-first c = omega (arith, bits c.two_digits-first.result.rem c.args.low)
-
-pub two_digits-second-requires : goal.two_digits-second-requires
-two_digits-second-requires c =
-    let d = c.before.before in
-    let s = d.before.before in
-    let r = d.two_digits-first.result.rem in
-    (s.requires.0, upper_lt r s.args.v (first d).small, bits r s.args.low)
 
 second_lt : (c : After-two_digits-second) → c.two_digits-second.result.quot < 2 ^ 6
 second_lt c =
@@ -92,12 +67,3 @@ returns c =
     (next_digits 64 s.args.v (s.args.high * 2 ^ 58 + s.args.low / 64) (bit_and s.args.low 63) _ _ _ _ (first d).whole (t.whole
     ∙ left r s.args.low) ∙ both s.args.high s.args.low)
     t.small
-
-pub overflow_add-high : goal.overflow_add-high
-overflow_add-high c = omega (arith, short c, c.ranges.v)
-
-pub two_digits-requires : goal.two_digits-requires
-two_digits-requires c = (c.requires.0, short c, rest_lt c.args.low)
-
-pub overflow_mul-result : goal.overflow_mul-result
-overflow_mul-result c = Fits-shl 58 6 tt (first_lt c.before.before.before.before)

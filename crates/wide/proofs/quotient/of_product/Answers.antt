@@ -1,7 +1,6 @@
 -- The quotient fits a word exactly where the product's high word is below the divisor.
-use Rattle.std.proofs.Common.{◌≡◌, ℕ, ◌+◌, ◌*◌, ◌/◌, ◌^◌, ◌<◌, ◌≤◌, sym, ap, ◌∙◌, subst, lt_of_le_of_lt, div-lt_iff_lt-mul, pos_of_ne-zero, div-add-mod', le-div_iff_mul-le, div-le_self, arith, w64, Fits, rules}
+use Rattle.std.proofs.Common.{◌≡◌, ℕ, ◌+◌, ◌*◌, ◌/◌, ◌^◌, ◌<◌, ◌≤◌, sym, ap, ◌∙◌, subst, lt_of_le_of_lt, div-lt_iff_lt-mul, pos_of_ne-zero, div-add-mod', le-div_iff_mul-le, div-le_self, arith, w64, Fits, rules, Ok}
 use Rattle.wide.specs.declared.Words.{Words}
-use Rattle.wide.specs.declared.Ratio.TheVariants.{Exact}
 use Rattle.wide.specs.Exact.{divided, ratio, words}
 use Rattle.wide.proofs.Laws.{ratio_by_zero, ratio_exact, ratio_over}
 use Rattle.wide.proofs.quotient.of_product.Goals as goal
@@ -40,7 +39,7 @@ returns-then-n-eq0 c =
     let e : low ≡ a.a * a.b = one_word (a.a * a.b) m.multiply-n.result m.multiply-n.ensures t.if-n-eq0.true in
     let f : Fits w64 low = search rules in
     let k : a.a * a.b / a.c < 2 ^ 64 = subst (λ (n : ℕ). n / a.c < 2 ^ 64) e (lt_of_le_of_lt (div-le_self low a.c) f.fits) in
-    sym (ratio_exact a.a a.b a.c (positive m.before) k ∙ ap (λ (n : ℕ). Exact (divided n a.c)) (sym e))
+    sym (ratio_exact a.a a.b a.c (positive m.before) k ∙ ap (λ (n : ℕ). Ok (divided n a.c)) (sym e))
 
 pub returns-then-n-c : goal.returns-then-n-c
 returns-then-n-c c =
@@ -49,7 +48,7 @@ returns-then-n-c c =
     let e = number (a.a * a.b) m.multiply-n.result m.multiply-n.ensures in
     sym
     (ratio_exact a.a a.b a.c (positive m.before) (fits (a.a * a.b) a.c m.multiply-n.result m.multiply-n.ensures c.if-n-c.true)
-    ∙ ap Exact (sym (c.divide.ensures ∙ ap (λ (n : ℕ). divided n a.c) e)))
+    ∙ ap Ok (sym (c.divide.ensures ∙ ap (λ (n : ℕ). divided n a.c) e)))
 
 pub returns-else-n-c : goal.returns-else-n-c
 returns-else-n-c c =
