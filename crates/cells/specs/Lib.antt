@@ -10,6 +10,7 @@ pub mod Kept
 pub mod Visit
 pub mod Turns
 pub mod Place
+pub mod Unvisited
 pub mod First
 pub mod Ranks
 pub mod Pass
@@ -20,6 +21,7 @@ pub mod Fill
 pub mod Naturals
 pub mod Rows
 pub mod Floors
+pub mod Marking
 pub mod Finish
 pub mod Order
 pub mod Search

@@ -1,6 +1,6 @@
 -- The search as a theorem, for tables of any size: a visit always ends, with a mark found or with its part closed. By induction on what
 -- is still open, from the same steps that the code takes.
-use Rattle.std.specs.Prelude.{◌≡◌, ℕ, zero, suc, ◌+◌, ◌-◌, ◌*◌, ◌<◌, ◌≤◌, Bool, true, false, List, length, replicate, slice_index, slice_index_or, slice_set}
+use Rattle.std.specs.Prelude.{◌≡◌, ℕ, zero, suc, ◌+◌, ◌-◌, ◌*◌, ◌<◌, ◌≤◌, Bool, true, false, Option, Some, None, List, length, replicate, slice_index, slice_index_or, slice_set}
 use Rattle.std.specs.Prelude.{refl}
 use Rattle.std.proofs.Common.{sym, ap, ap₂, ◌∙◌, arith, length-set}
 use Rattle.std.proofs.Math.Decide.{ℕ_discrete, dec_lt}
@@ -46,12 +46,12 @@ Cols k = (marks wants rows columns : List ℕ) (j : ℕ) → Shape marks wants r
 
 -- ---- a column that the row can take at once, or none
 record FreeAt (n : ℕ) (marks wants columns : List ℕ) (i : ℕ) : Type 0 where
-  place : ℕ
+  place : Option ℕ
   free : Free n marks wants columns i place
 
-free_from : (n : ℕ) (marks wants columns : List ℕ) (i d j best most : ℕ) → j + d ≡ n → FreeInv n marks wants columns i best most j
+free_from : (n : ℕ) (marks wants columns : List ℕ) (i d j : ℕ) (best : Option ℕ) (most : ℕ) → j + d ≡ n → FreeInv n marks wants columns i best most j
     → FreeAt n marks wants columns i
-free_from n marks wants columns i zero j best most e I = record { place = best; free = free_end I (omega arith) }
+free_from n marks wants columns i zero j best most e I = record { place = best; free = free_end best I (omega arith) }
 free_from n marks wants columns i (suc d) j best most e I = go (dec_lt most (slice_index wants j)) (ℕ_discrete (at n marks i j) 1)
     (dec_lt 0 (slice_index columns j))
     (λ b m J. free_from n marks wants columns i d (j + 1) b m (omega arith) J)
@@ -60,8 +60,8 @@ free_from n marks wants columns i (suc d) j best most e I = go (dec_lt most (sli
     h = omega arith
 
     go : Dec (most < slice_index wants j) → Dec (at n marks i j ≡ 1) → Dec (0 < slice_index columns j)
-        → ((b m : ℕ) → FreeInv n marks wants columns i b m (j + 1) → FreeAt n marks wants columns i) → FreeAt n marks wants columns i
-    go (yes p) (yes q) (yes r) on = on j (slice_index wants j) (free_better I h p q r)
+        → ((b : Option ℕ) (m : ℕ) → FreeInv n marks wants columns i b m (j + 1) → FreeAt n marks wants columns i) → FreeAt n marks wants columns i
+    go (yes p) (yes q) (yes r) on = on (Some j) (slice_index wants j) (free_better I h p q r)
     go (no p) q r on = on best most (free_pass I h (λ a b. omega (arith, p)))
     go (yes p) (no q) r on = on best most (free_pass I h (λ a b. absurd (q a)))
     go (yes p) (yes q) (no r) on = on best most (free_pass I h (λ a b. absurd (r b)))
@@ -70,22 +70,22 @@ free_from n marks wants columns i (suc d) j best most e I = go (dec_lt most (sli
 module _ (k : ℕ) (cols : Cols k) (marks wants rows columns : List ℕ) (i : ℕ) (S : Shape marks wants rows columns) (hi : i < length rows)
     (o : 0 < slice_index rows i)
     (most : total rows + total columns ≤ suc k) where
-  row_loop : (f : ℕ) → Free (length columns) marks wants columns i f → length columns ≤ f → (d j : ℕ) {ms ws ro co : List ℕ} → j + d ≡ length columns
+  row_loop : Free (length columns) marks wants columns i None → (d j : ℕ) {ms ws ro co : List ℕ} → j + d ≡ length columns
       → RowInv (length rows) (length columns) marks wants (slice_set rows i 0) columns i ms ws ro co j → RowAnswer marks wants rows columns i
-  row_loop f F l zero j {ms} {ws} {ro} {co} e I = record {
+  row_loop F zero j {ms} {ws} {ro} {co} e I = record {
     found = false;
     marks' = ms;
     wants' = ws;
     rows' = ro;
     columns' = co;
-    visited = row_last rows i hi o j I (omega arith);
+    visited = row_last rows i refl hi o j I (omega arith);
     cells = ap length I.0.same;
     wide = ap length I.0.wants;
     tall = I.0.tall;
     long = I.0.long;
   }
-  row_loop f F l (suc d) j {ms} {ws} {ro} {co} e I = go (dec_lt 0 (slice_index co j)) (ℕ_discrete (at (length columns) ms i j) 1)
-      (λ ms' ws' ro' co' J. row_loop f F l d (j + 1) (omega arith) J)
+  row_loop F (suc d) j {ms} {ws} {ro} {co} e I = go (dec_lt 0 (slice_index co j)) (ℕ_discrete (at (length columns) ms i j) 1)
+      (λ ms' ws' ro' co' J. row_loop F d (j + 1) (omega arith) J)
     where
       h : j < length columns
       h = omega arith
@@ -103,7 +103,7 @@ module _ (k : ℕ) (cols : Cols k) (marks wants rows columns : List ℕ) (i : �
             ∙ sym (ap₂ ◌*◌ I.0.tall I.0.long);
         wide = ap length I.0.wants ∙ S.wide ∙ sym I.0.long;
       }) (omega (arith, I.0.long)) c
-          (row_wants i j I h f F l q c) (omega (arith, row_less rows i hi o j I)))
+          (row_wants i j I h F q c) (omega (arith, row_less rows i refl hi o j I)))
         where
           turn : ColAnswer ms ws ro co j → RowAnswer marks wants rows columns i
           turn a = by a.found refl
@@ -115,36 +115,35 @@ module _ (k : ℕ) (cols : Cols k) (marks wants rows columns : List ℕ) (i : �
                 wants' = a.wants';
                 rows' = a.rows';
                 columns' = a.columns';
-                visited = row_hit rows i hi o j I a.found h (omega (arith, p, a.cells, ap length I.0.same)) q c a.visited y;
+                visited = row_hit rows i refl hi o j I a.found h (omega (arith, p, a.cells, ap length I.0.same)) q c (rw (I.0.tall, I.0.long) at a.visited) y;
                 cells = length-set a.marks' (i * length columns + j) 2 ∙ a.cells ∙ ap length I.0.same;
                 wide = a.wide ∙ ap length I.0.wants;
                 tall = a.tall ∙ I.0.tall;
                 long = a.long ∙ I.0.long;
               }
-              by false y = on _ _ _ _ (row_miss i j I h a.found a.visited y a.tall a.long)
+              by false y = on _ _ _ _ (row_miss i j I h a.found (rw (I.0.tall, I.0.long) at a.visited) y (a.tall ∙ I.0.tall) (a.long ∙ I.0.long))
 
   row_visit : RowAnswer marks wants rows columns i
-  row_visit = go (free_from (length columns) marks wants columns i (length columns) 0 (length columns) 0 (omega arith)
+  row_visit = go (free_from (length columns) marks wants columns i (length columns) 0 None 0 (omega arith)
       (free_start (length columns) marks wants columns i))
     where
       go : FreeAt (length columns) marks wants columns i → RowAnswer marks wants rows columns i
-      go a = by (dec_lt a.place (length columns))
+      go a = by a.place a.free
         where
-          by : Dec (a.place < length columns) → RowAnswer marks wants rows columns i
-          by (yes h) = record {
+          by : (r : Option ℕ) → Free (length columns) marks wants columns i r → RowAnswer marks wants rows columns i
+          by (Some f) F = record {
             found = true;
-            marks' = slice_set marks (i * length columns + a.place) 2;
-            wants' = slice_set wants a.place (slice_index wants a.place - 1);
+            marks' = slice_set marks (i * length columns + f) 2;
+            wants' = slice_set wants f (slice_index wants f - 1);
             rows' = rows;
             columns' = columns;
-            visited = row_now i a.place S hi o a.free h rows;
-            cells = length-set marks (i * length columns + a.place) 2;
-            wide = length-set wants a.place (slice_index wants a.place - 1);
+            visited = row_now i f S.cells S.wide hi o F rows;
+            cells = length-set marks (i * length columns + f) 2;
+            wide = length-set wants f (slice_index wants f - 1);
             tall = refl;
             long = refl;
           }
-          by (no h) = row_loop a.place a.free (omega (arith, h)) (length columns) 0 (omega arith)
-              (row_start marks wants (slice_set rows i 0) columns i (length-set rows i 0) refl)
+          by None F = row_loop F (length columns) 0 (omega arith) (row_start marks wants (slice_set rows i 0) columns i (length-set rows i 0) refl)
 
 -- ---- a column, from visits of rows
 module _ (k : ℕ) (row : Rows k) (marks wants rows columns : List ℕ) (j : ℕ) (S : Shape marks wants rows columns) (hj : j < length columns) (o : 0
@@ -158,7 +157,7 @@ module _ (k : ℕ) (row : Rows k) (marks wants rows columns : List ℕ) (j : ℕ
     wants' = ws;
     rows' = ro;
     columns' = co;
-    visited = col_last columns j hj o i I (omega arith) w;
+    visited = col_last columns j refl hj o i I (omega arith) w;
     cells = ap length I.0.same;
     wide = ap length I.0.wants;
     tall = I.0.tall;
@@ -183,7 +182,7 @@ module _ (k : ℕ) (row : Rows k) (marks wants rows columns : List ℕ) (j : ℕ
             ∙ sym (ap₂ ◌*◌ I.0.tall I.0.long);
         wide = ap length I.0.wants ∙ S.wide ∙ sym I.0.long;
       }) (omega (arith, I.0.tall)) c
-          (omega (arith, col_less columns j hj o i I)))
+          (omega (arith, col_less columns j refl hj o i I)))
         where
           turn : RowAnswer ms ws ro co i → ColAnswer marks wants rows columns j
           turn a = by a.found refl
@@ -195,13 +194,13 @@ module _ (k : ℕ) (row : Rows k) (marks wants rows columns : List ℕ) (j : ℕ
                 wants' = a.wants';
                 rows' = a.rows';
                 columns' = a.columns';
-                visited = col_hit columns j hj o i I a.found h (omega (arith, p, a.cells, ap length I.0.same)) q c a.visited y;
+                visited = col_hit columns j refl hj o i I a.found h (omega (arith, p, a.cells, ap length I.0.same)) q c (rw (I.0.tall, I.0.long) at a.visited) y;
                 cells = length-set a.marks' (i * length columns + j) 1 ∙ a.cells ∙ ap length I.0.same;
                 wide = a.wide ∙ ap length I.0.wants;
                 tall = a.tall ∙ I.0.tall;
                 long = a.long ∙ I.0.long;
               }
-              by false y = on _ _ _ _ (col_miss j i I h a.found a.visited y a.tall a.long)
+              by false y = on _ _ _ _ (col_miss j i I h a.found (rw (I.0.tall, I.0.long) at a.visited) y (a.tall ∙ I.0.tall) (a.long ∙ I.0.long))
 
   col_visit : ColAnswer marks wants rows columns j
   col_visit = col_loop (length rows) 0 (omega arith) (col_start marks wants rows (slice_set columns j 0) j refl (length-set columns j 0))
