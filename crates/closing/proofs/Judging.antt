@@ -1,7 +1,7 @@
 -- What a call that has begun a closing knows, group after group of the refusals, and how the groups make up `refusal`.
-use Rattle.std.proofs.Common.{◌≡◌, ◌≤◌, ℕ, ℤ, List, length, take, refl, sym, ap, ◌∙◌, false}
+use Rattle.std.proofs.Common.{◌≡◌, ◌≤◌, ℤ, List, length, take, refl, sym, ap, ◌∙◌, false}
 use lib.Seq.{length-take-le}
-use Rattle.std.specs.Prelude.{Result, Ok, Err, IsErrAnd}
+use Rattle.std.specs.Prelude.{Result, Ok, IsErrAnd}
 use Rattle.std.proofs.lemmas.Result.{err_from_is_err_and}
 use Rattle.rules.specs.declared.Ledger.{Ledger}
 use Rattle.rules.specs.declared.outcomes.Refusal.{Refusal}
@@ -13,13 +13,11 @@ use Rattle.rules.specs.Tested.{Tested}
 use Rattle.rules.specs.Refusals.{bad_counts, count_tests, state_tests, line_tests, sum_tests, refusal}
 use Rattle.rules.specs.Calls.{state_of}
 use Rattle.rules.proofs.Tests.{when_then}
-use Rattle.rules.proofs.Passed.{Counts, counts, slices_accepted, tested}
+use Rattle.rules.proofs.Passed.{Counts, counts}
 use Rattle.charges.specs.declared.month.Bills.{Bills}
 use Rattle.charges.specs.declared.scan.Sums.{Sums}
-use Rattle.closing.specs.declared.judge.Judged.{Judged}
 use Rattle.charges.specs.Scan.{SumsOf}
-use Rattle.charges.specs.Month.{Billed}
-use Rattle.closing.specs.Judged.{Begun, JudgesBy, Finds, Weighable, Weighs, Judges}
+use Rattle.closing.specs.Judged.{Begun, JudgesBy, Weighable, Weighs, Judges}
 
 -- refused, with nothing found: what `?` hands on
 pub stops : {T : Type 0} {Found : T → Type 0} {v : Verdict} (e : Refusal) (r : Result T Refusal) → IsErrAnd r (λ (d : Refusal). d ≡ e) → refused_by e ≡ v

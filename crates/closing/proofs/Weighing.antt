@@ -1,7 +1,7 @@
 -- Refusals 8, 9 and 10 as the code comes to them, of a month that has passed the tests before: what each step asks, and how they make up
 -- `sum_tests`.
 use Prim.Native.Nat.{◌≤◌}
-use mathlib.Core.Path.{◌≡◌, refl, sym, ◌∙◌}
+use mathlib.Core.Path.{◌≡◌, sym, ◌∙◌}
 use mathlib.Core.List.{List}
 use lib.IntN.{ℤ, pos}
 use lib.ListN.{length}

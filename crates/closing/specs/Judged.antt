@@ -1,5 +1,5 @@
 -- What is found of a closing on which 1 and 2 are tested: refusals 1 to 10 in the order of `rules`, and the amounts.
-use Rattle.std.specs.Prelude.{ℕ, ◌≤◌, ◌≡◌, Result, IfOk, List, ℤ, length}
+use Rattle.std.specs.Prelude.{◌≤◌, ◌≡◌, Result, IfOk, List, ℤ, length}
 use Rattle.rules.specs.declared.Ledger.{Ledger}
 use Rattle.rules.specs.declared.outcomes.Refusal.{Refusal}
 use Rattle.rules.specs.Verdict.{Verdict, accepted}

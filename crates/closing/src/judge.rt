@@ -44,13 +44,10 @@ fn weighed(held: &[i64], month: MonthLines, sums: &Sums) -> Result<Bills, Refusa
     requires { (st : State) × Weighable held.now (lines_of month) sums.now st }
     ensures { (st : State) → Weighable held.now (lines_of month.entry) sums.now st → Weighs st (lines_of month.entry) result }
 {
-    let n = month.users.len();
+    let uses = &sums.uses[..month.users.len()];
+    let pb = credits::columns::pb_total(month.agents);
     let pv = credits::columns::pv_total(month.agents);
-    charges::sums::weights_verdict(
-        credits::columns::pb_total(month.agents),
-        pv,
-        ints::total(&sums.uses[..n]),
-    )?;
+    charges::sums::weights_verdict(pb, pv, ints::total(uses))?;
     let bills = charges::month::bill(month.users, sums, pv, held);
     charges::sums::debits_verdict(bills.total)?;
     Ok(bills)

@@ -1,5 +1,5 @@
-// A closing whose points have been scanned: refusals 1 to 10 in paper 01's order with the users' amounts, and what an accepted month
-// writes.
+// A closing of which 1 and 2 are tested: refusals 1 to 10 in paper 01's order with every user's sums and amounts, and what an accepted
+// month writes.
 #![tactic(auto)]
 
 pub mod judge;

@@ -15,8 +15,9 @@ use Rattle.format.specs.Language.{Begins, Place, Follows, Stands}
 use Rattle.format.specs.Values.{read_blocks, file_of}
 use Rattle.format.specs.Reading.{scan, scan_at, ReadingAnswer, accepted, refused, answer, reading, Exceeds, Read, Why, faulty, too_long}
 use Rattle.format.specs.Reading.{Back, Says}
-use Rattle.format.specs.declared.Scanned.{Scanned}
-use Rattle.format.specs.declared.Scanned.TheVariants.{Whole, Faulty, Full}
+use Rattle.std.specs.Prelude.{Result, Ok, Err}
+use Rattle.format.specs.declared.Fault.{Fault}
+use Rattle.format.specs.declared.Fault.TheVariants.{Faulty, Full}
 use Rattle.format.proofs.Table.{sound_format}
 use Rattle.format.proofs.Slices.{too_many_lem}
 use Rattle.format.proofs.Places.{Later, one_place, no_place, same_place}
@@ -33,7 +34,7 @@ module _ (r : Slices) (t : List ℕ) (from : ℕ) where
   k = min from (length t)
 
   -- a file was read
-  read_whole : (n : ℕ) → Claim (start r) s k (Whole n) → Read r t from (file_of (read_blocks (blocks r) s).got) n
+  read_whole : (n : ℕ) → Claim (start r) s k (Ok n) → Read r t from (file_of (read_blocks (blocks r) s).got) n
   read_whole n c =
       let o = sound r c.rests.first c.rests.whole in
       let e : s ≡ file_text o.ends o.file ++ c.rests.rest = c.rests.is ∙ ap (λ (x : List ℕ). x ++ c.rests.rest) o.is in
@@ -54,14 +55,14 @@ module _ (r : Slices) (t : List ℕ) (from : ℕ) where
   place_of r' q a = same_place (Rests (start r')) (Stands r') (rests_stands r') s q a
 
   -- 11 with any room
-  free_place : (n q : ℕ) → n ≡ k + q → scan (wide (start r)) k s ≡ Faulty n → Place (Stands free) s q
+  free_place : (n q : ℕ) → n ≡ k + q → scan (wide (start r)) k s ≡ Err (Faulty n) → Place (Stands free) s q
   free_place n q e w =
-      let w' : scan (start free) k s ≡ Faulty n = ap (λ (x : State). scan x k s) (sym (wide_start r)) ∙ w in
+      let w' : scan (start free) k s ≡ Err (Faulty n) = ap (λ (x : State). scan x k s) (sym (wide_start r)) ∙ w in
       let l : Later (Rests (start free)) s k n = subst (Claim (start free) s k) w' (claim (start free) (sound_format free) refl k s) in
       let h : l.past ≡ q = omega (arith, l.here) in
       subst (Place (Stands free) s) h (place_of free l.past l.place)
 
-  back_faulty : (n : ℕ) → Claim (start r) s k (Faulty n) → Wider (start r) s k (Faulty n) → Back r t from 11 n
+  back_faulty : (n : ℕ) → Claim (start r) s k (Err (Faulty n)) → Wider (start r) s k (Err (Faulty n)) → Back r t from 11 n
   back_faulty n c w =
       record {
         past = c.past;
@@ -95,7 +96,7 @@ module _ (r : Slices) (t : List ℕ) (from : ℕ) where
         };
       }
 
-  back_full : (n : ℕ) → Claim (start r) s k (Full n) → Longer (start r) s k n → Back r t from 12 n
+  back_full : (n : ℕ) → Claim (start r) s k (Err (Full n)) → Longer (start r) s k n → Back r t from 12 n
   back_full n c l =
       let e : l.past ≡ c.past = omega (arith, c.here, l.here) in
       let f = place_of r c.past c.place in
@@ -116,13 +117,13 @@ module _ (r : Slices) (t : List ℕ) (from : ℕ) where
   reads = by (scan (start r) k s) (claim (start r) (sound_format r) refl k s) (wider (start r) (sound_format r) k s)
     where
       by :
-          (v : Scanned)
+          (v : Result ℕ Fault)
           → Claim (start r) s k v
           → Wider (start r) s k v
           → Says r t from (answer (file_of (read_blocks (blocks r) s).got) v)
-      by (Whole n) c w = read_whole n c
-      by (Faulty n) c w = back_faulty n c w
-      by (Full n) c w = back_full n c w
+      by (Ok n) c w = read_whole n c
+      by (Err (Faulty n)) c w = back_faulty n c w
+      by (Err (Full n)) c w = back_full n c w
 
   -- what is read stands there
   stands : (f : File) (n : ℕ) → Read r t from f n → Stands r s

@@ -20,8 +20,9 @@ use Rattle.format.specs.Machine.{onward, TextVerdict, passes, fails, judge, numb
 use Rattle.format.specs.Reading.{no_room, too_many, scan, scan_at, ReadingAnswer, accepted, refused, answer, reading, AtLeast, ReadsOn, last, then}
 use Rattle.format.specs.Reading.{ComesBack, here, further}
 use Rattle.format.specs.Values.{read_blocks, file_of}
-use Rattle.format.specs.declared.Scanned.{Scanned}
-use Rattle.format.specs.declared.Scanned.TheVariants.{Whole, Faulty, Full}
+use Rattle.std.specs.Prelude.{Result, Ok, Err}
+use Rattle.format.specs.declared.Fault.{Fault}
+use Rattle.format.specs.declared.Fault.TheVariants.{Faulty, Full}
 use Rattle.format.proofs.Live.{Holds, Kept, keep_step}
 use Rattle.format.proofs.Table.{sound_format}
 use Rattle.format.proofs.Accepts.{within, beyond}
@@ -30,7 +31,7 @@ use Rattle.format.proofs.Wide.{wide, wide_start, Wider, wider}
 use Rattle.format.proofs.FileByFile.{next_within, checked_by_reading}
 
 -- two verdicts are not one
-no_fault : (k p : ℕ) → Whole k ≡ Faulty p → ⊥
+no_fault : (k p : ℕ) → Ok k ≡ Err (Faulty p) → ⊥
 no_fault k p e = let z : ◌≡◌ {A = ℕ} 0 1 = cc in omega arith
 
 -- SLICES AS LONG AS THE TEXT ARE NEVER TOO SHORT: each line begun is a byte read
@@ -83,18 +84,18 @@ roomy_enough n b (at f) a = rw (room f a)
     room (lines (up_to r) k ∷ f) a = ne_eqb r 0 (λ e. omega (arith, a.0))
 roomy_enough n b (value p k f) a = refl
 
-never_full : (s : State) (k : ℕ) (t : List ℕ) → Holds (Roomy (length t)) s → (q : ℕ) → scan s k t ≡ Full q → ⊥
+never_full : (s : State) (k : ℕ) (t : List ℕ) → Holds (Roomy (length t)) s → (q : ℕ) → scan s k t ≡ Err (Full q) → ⊥
 unfolding scan
 never_full s k [] a q e = by (final s) e
   where
-    by : (f : Bool) → cond f (Whole k) (Faulty k) ≡ Full q → ⊥
+    by : (f : Bool) → cond f (Ok k) (Err (Faulty k)) ≡ Err (Full q) → ⊥
     by true e = let z : ◌≡◌ {A = ℕ} 0 1 = cc in omega arith
     by false e = let z : ◌≡◌ {A = ℕ} 0 1 = cc in omega arith
 never_full s k (b ∷ t) a q e =
     by (ends_before s b) (is_stuck (step s b)) (rw (roomy_enough (length t) b s a) at e)
     (never_full (step s b) (k + 1) t (keep_step (Roomy (suc (length t))) (Roomy (length t)) b (roomy_kept (length t) b) s a) q)
   where
-    by : (o d : Bool) → cond o (Whole k) (cond d (Faulty k) (scan (step s b) (k + 1) t)) ≡ Full q → (scan (step s b) (k + 1) t ≡ Full q → ⊥) → ⊥
+    by : (o d : Bool) → cond o (Ok k) (cond d (Err (Faulty k)) (scan (step s b) (k + 1) t)) ≡ Err (Full q) → (scan (step s b) (k + 1) t ≡ Err (Full q) → ⊥) → ⊥
     by true d e r = let z : ◌≡◌ {A = ℕ} 0 1 = cc in omega arith
     by false true e r = let z : ◌≡◌ {A = ℕ} 0 1 = cc in omega arith
     by false false e r = r e
@@ -123,18 +124,18 @@ module _ (s : State) (b : ℕ) (t : List ℕ) (k : ℕ) where
   judge_over o = ap (λ (x : State). cond (is_stuck x) (fails k) (judge x (k + 1) t)) (beyond s b o ∙ sym (first_byte b))
 
 -- a fault is the check's
-same_fault : (s : State) (k : ℕ) (t : List ℕ) (p : ℕ) → scan s k t ≡ Faulty p → judge s k t ≡ fails p
+same_fault : (s : State) (k : ℕ) (t : List ℕ) (p : ℕ) → scan s k t ≡ Err (Faulty p) → judge s k t ≡ fails p
 unfolding scan judge
 same_fault s k [] p e = by (final s) e
   where
-    by : (f : Bool) → cond f (Whole k) (Faulty k) ≡ Faulty p → cond f passes (fails k) ≡ fails p
+    by : (f : Bool) → cond f (Ok k) (Err (Faulty k)) ≡ Err (Faulty p) → cond f passes (fails k) ≡ fails p
     by true e = absurd (no_fault k p e)
     by false e = let h : k ≡ p = cc in ap fails h
 same_fault s k (b ∷ t) p e = by (ends_before s b) (too_many s b) (is_stuck (step s b)) refl refl e (same_fault (step s b) (k + 1) t p)
   where
     by : (o f d : Bool) → ends_before s b ≡ o → is_stuck (step s b) ≡ d
-        → cond o (Whole k) (cond f (Full k) (cond d (Faulty k) (scan (step s b) (k + 1) t))) ≡ Faulty p
-        → (scan (step s b) (k + 1) t ≡ Faulty p → judge (step s b) (k + 1) t ≡ fails p)
+        → cond o (Ok k) (cond f (Err (Full k)) (cond d (Err (Faulty k)) (scan (step s b) (k + 1) t))) ≡ Err (Faulty p)
+        → (scan (step s b) (k + 1) t ≡ Err (Faulty p) → judge (step s b) (k + 1) t ≡ fails p)
         → judge s k (b ∷ t) ≡ fails p
     by true f d x y e r = absurd (no_fault k p e)
     by false true d x y e r = let z : ◌≡◌ {A = ℕ} 0 1 = cc in absurd (omega arith)
@@ -147,18 +148,18 @@ record Goes (s : State) (k : ℕ) (t : List ℕ) (n : ℕ) : Type 0 where
   here : n ≡ k + past
   goes : judge s k t ≡ goes_on n (drop past t)
 
-same_end : (s : State) (k : ℕ) (t : List ℕ) (n : ℕ) → scan s k t ≡ Whole n → Goes s k t n
+same_end : (s : State) (k : ℕ) (t : List ℕ) (n : ℕ) → scan s k t ≡ Ok n → Goes s k t n
 unfolding scan
 same_end s k [] n e = by (final s) refl e
   where
-    by : (f : Bool) → final s ≡ f → cond f (Whole k) (Faulty k) ≡ Whole n → Goes s k [] n
+    by : (f : Bool) → final s ≡ f → cond f (Ok k) (Err (Faulty k)) ≡ Ok n → Goes s k [] n
     by true q e = let h : k ≡ n = cc in record { past = 0; here = omega arith; goes = judge_end s k true q }
     by false q e = absurd (no_fault n k (sym e))
 same_end s k (b ∷ t) n e = by (ends_before s b) (too_many s b) (is_stuck (step s b)) refl refl e (same_end (step s b) (k + 1) t n)
   where
     by : (o f d : Bool) → ends_before s b ≡ o → is_stuck (step s b) ≡ d
-        → cond o (Whole k) (cond f (Full k) (cond d (Faulty k) (scan (step s b) (k + 1) t))) ≡ Whole n
-        → (scan (step s b) (k + 1) t ≡ Whole n → Goes (step s b) (k + 1) t n)
+        → cond o (Ok k) (cond f (Err (Full k)) (cond d (Err (Faulty k)) (scan (step s b) (k + 1) t))) ≡ Ok n
+        → (scan (step s b) (k + 1) t ≡ Ok n → Goes (step s b) (k + 1) t n)
         → Goes s k (b ∷ t) n
     by true f d x y e r =
         let h : k ≡ n = cc in
@@ -193,39 +194,39 @@ module _ (r : Slices) (t : List ℕ) (wide_enough : AtLeast (length t) r) where
   roomy from = roomy_start (length (drop from t)) r (at_least (length (drop from t)) r (omega (arith, length-drop from t)) wide_enough)
 
   -- reading's verdict is that with any room
-  wide_verdict : (k from : ℕ) (v : Scanned) → scan (start r) k (drop from t) ≡ v → scan (start free) k (drop from t) ≡ v
+  wide_verdict : (k from : ℕ) (v : Result ℕ Fault) → scan (start r) k (drop from t) ≡ v → scan (start free) k (drop from t) ≡ v
   wide_verdict k from v e =
       ap (λ (s : State). scan s k (drop from t)) (sym (wide_start r))
       ∙ by v e (subst (Wider (start r) (drop from t) k) e (wider (start r) (sound_format r) k (drop from t)))
     where
-      by : (v : Scanned) → scan (start r) k (drop from t) ≡ v → Wider (start r) (drop from t) k v
+      by : (v : Result ℕ Fault) → scan (start r) k (drop from t) ≡ v → Wider (start r) (drop from t) k v
           → scan (wide (start r)) k (drop from t) ≡ v
-      by (Whole n) e w = w
-      by (Faulty n) e w = w
-      by (Full n) e w = absurd (never_full (start r) k (drop from t) (roomy from) n e)
+      by (Ok n) e w = w
+      by (Err (Faulty n)) e w = w
+      by (Err (Full n)) e w = absurd (never_full (start r) k (drop from t) (roomy from) n e)
 
   -- what an answer tells of the verdict
-  was_whole : (from next : ℕ) (f : File) → reading r t from ≡ accepted f next → scan_at r t from ≡ Whole next
+  was_whole : (from next : ℕ) (f : File) → reading r t from ≡ accepted f next → scan_at r t from ≡ Ok next
   unfolding reading
   was_whole from next f e = by (scan_at r t from) _ e
     where
-      by : (v : Scanned) (g : File) → answer g v ≡ accepted f next → v ≡ Whole next
-      by (Whole n) g e = let h : n ≡ next = cc in ap (λ (x : ℕ). Whole x) h
-      by (Faulty n) g e = let z : ◌≡◌ {A = ℕ} 0 1 = cc in absurd (omega arith)
-      by (Full n) g e = let z : ◌≡◌ {A = ℕ} 0 1 = cc in absurd (omega arith)
+      by : (v : Result ℕ Fault) (g : File) → answer g v ≡ accepted f next → v ≡ Ok next
+      by (Ok n) g e = let h : n ≡ next = cc in ap (λ (x : ℕ). Ok x) h
+      by (Err (Faulty n)) g e = let z : ◌≡◌ {A = ℕ} 0 1 = cc in absurd (omega arith)
+      by (Err (Full n)) g e = let z : ◌≡◌ {A = ℕ} 0 1 = cc in absurd (omega arith)
 
-  was_fault : (from c q : ℕ) → reading r t from ≡ refused c q → (c ≡ 11) × (scan_at r t from ≡ Faulty q)
+  was_fault : (from c q : ℕ) → reading r t from ≡ refused c q → (c ≡ 11) × (scan_at r t from ≡ Err (Faulty q))
   unfolding reading scan_at
   was_fault from c q e = by (scan (start r) (min from (length t)) (drop from t)) _ refl e
     where
       by :
-          (v : Scanned) (g : File)
+          (v : Result ℕ Fault) (g : File)
           → scan (start r) (min from (length t)) (drop from t) ≡ v
           → answer g v ≡ refused c q
-          → (c ≡ 11) × (v ≡ Faulty q)
-      by (Whole n) g x e = let z : ◌≡◌ {A = ℕ} 0 1 = cc in absurd (omega arith)
-      by (Faulty n) g x e = let h : 11 ≡ c = cc in let i : n ≡ q = cc in (sym h, ap (λ (y : ℕ). Faulty y) i)
-      by (Full n) g x e = absurd (never_full (start r) (min from (length t)) (drop from t) (roomy from) n x)
+          → (c ≡ 11) × (v ≡ Err (Faulty q))
+      by (Ok n) g x e = let z : ◌≡◌ {A = ℕ} 0 1 = cc in absurd (omega arith)
+      by (Err (Faulty n)) g x e = let h : 11 ≡ c = cc in let i : n ≡ q = cc in (sym h, ap (λ (y : ℕ). Err (Faulty y)) i)
+      by (Err (Full n)) g x e = absurd (never_full (start r) (min from (length t)) (drop from t) (roomy from) n x)
 
   -- the check from a file's end on is the check of what is left
   goes_on_lem :
@@ -247,32 +248,32 @@ module _ (r : Slices) (t : List ℕ) (wide_enough : AtLeast (length t) r) where
   unfolding scan_at
   comes_back from c q (here _ _ _ e) =
       let w = was_fault from c q e in
-      (w.0, same_fault (start free) (min from (length t)) (drop from t) q (wide_verdict (min from (length t)) from (Faulty q) w.1))
+      (w.0, same_fault (start free) (min from (length t)) (drop from t) q (wide_verdict (min from (length t)) from (Err (Faulty q)) w.1))
   comes_back from c q (further _ f next _ _ e h b) =
       let w = was_whole from next f e in
-      let g = same_end (start free) (min from (length t)) (drop from t) next (wide_verdict (min from (length t)) from (Whole next) w) in
+      let g = same_end (start free) (min from (length t)) (drop from t) next (wide_verdict (min from (length t)) from (Ok next) w) in
       let i = comes_back next c q b in
       let w = next_within r t from next f e in
       let n : next ≡ from + g.past = omega (arith, g.here) in
       (i.0, g.goes ∙ goes_on_lem next from g.past n h ∙ i.1)
 
   -- BY READING'S VERDICTS: how the check goes on from a position, as a program finds it
-  pub never_too_many : (from q : ℕ) → scan_at r t from ≡ Full q → ⊥
+  pub never_too_many : (from q : ℕ) → scan_at r t from ≡ Err (Full q) → ⊥
   unfolding scan_at
   never_too_many from q e = never_full (start r) (min from (length t)) (drop from t) (roomy from) q e
 
-  pub check_fault : (from q : ℕ) → scan_at r t from ≡ Faulty q → judge (start free) (min from (length t)) (drop from t) ≡ fails q
+  pub check_fault : (from q : ℕ) → scan_at r t from ≡ Err (Faulty q) → judge (start free) (min from (length t)) (drop from t) ≡ fails q
   unfolding scan_at
-  check_fault from q e = same_fault (start free) (min from (length t)) (drop from t) q (wide_verdict (min from (length t)) from (Faulty q) e)
+  check_fault from q e = same_fault (start free) (min from (length t)) (drop from t) q (wide_verdict (min from (length t)) from (Err (Faulty q)) e)
 
-  module _ (from next : ℕ) (e : scan_at r t from ≡ Whole next) where
+  module _ (from next : ℕ) (e : scan_at r t from ≡ Ok next) where
     pub check_forward : (from < next) × (next ≤ length t)
     unfolding reading
     check_forward = next_within r t from next _ (ap (answer (file_of (read_blocks (blocks r) (drop from t)).got)) e)
 
     whole_end : Goes (start free) (min from (length t)) (drop from t) next
     unfolding scan_at
-    whole_end = same_end (start free) (min from (length t)) (drop from t) next (wide_verdict (min from (length t)) from (Whole next) e)
+    whole_end = same_end (start free) (min from (length t)) (drop from t) next (wide_verdict (min from (length t)) from (Ok next) e)
 
     next_is : next ≡ from + whole_end.past
     next_is = let b = check_forward in omega (arith, whole_end.here)

@@ -18,8 +18,9 @@ use Rattle.format.specs.Values.{read_blocks, file_of}
 use Rattle.format.specs.Reading.{scan_at, accepted, answer, reading, ReadsOn, then, ComesBack, here, further}
 use Rattle.format.specs.Reading as R
 use Rattle.format.specs.Saved.{Added, over, kept, added, Saved, moved, moved_answer, moved_number}
-use Rattle.format.specs.declared.Scanned.{Scanned}
-use Rattle.format.specs.declared.Scanned.TheVariants.{Whole, Faulty, Full}
+use Rattle.std.specs.Prelude.{Result, Ok, Err}
+use Rattle.format.specs.declared.Fault.{Fault}
+use Rattle.format.specs.declared.Fault.TheVariants.{Faulty, Full}
 use Rattle.format.proofs.FileCheck.{check_within}
 use Rattle.format.proofs.Answers.{reading_is}
 use Rattle.format.proofs.FileByFile.{checked_by_reading}
@@ -31,7 +32,7 @@ use Rattle.format.proofs.SavedValues.{same_file}
 abbrev found : Slices → List ℕ → ℕ → File
 found r t from = file_of (read_blocks (blocks r) (drop from t)).got
 
-unfoldable is_there : (r : Slices) (t : List ℕ) (from n : ℕ) → scan_at r t from ≡ Whole n → Stands r (drop from t)
+unfoldable is_there : (r : Slices) (t : List ℕ) (from n : ℕ) → scan_at r t from ≡ Ok n → Stands r (drop from t)
 unfolding reading
 is_there r t from n e =
     let x = (reading_is r t from (accepted (found r t from) n)).0 (ap (answer (found r t from)) e) in
@@ -42,7 +43,7 @@ pub same_reading : (r : Slices) (t u : List ℕ) (c : Saved t u) (from : ℕ) �
 unfolding reading is_there
 same_reading r t u c from = ap (answer (found r u (moved c from))) (same_verdict r t u c from) ∙ same_answer (scan_at r t from) refl
   where
-    same_found : (n : ℕ) → scan_at r t from ≡ Whole n → found r u (moved c from) ≡ found r t from
+    same_found : (n : ℕ) → scan_at r t from ≡ Ok n → found r u (moved c from) ≡ found r t from
     same_found n e =
         let x = remains c from in
         let l : Added x.before (drop from t) (drop (moved c from) u) =
@@ -51,12 +52,12 @@ same_reading r t u c from = ap (answer (found r u (moved c from))) (same_verdict
         (is_there r u (moved c from) (moved c n) (same_verdict r t u c from ∙ ap (placed (moved c)) e))
 
     same_answer :
-        (v : Scanned)
+        (v : Result ℕ Fault)
         → scan_at r t from ≡ v
         → answer (found r u (moved c from)) (placed (moved c) v) ≡ moved_answer c (answer (found r t from) v)
-    same_answer (Whole n) e = ap (λ (f : File). accepted f (moved c n)) (same_found n e)
-    same_answer (Faulty n) e = refl
-    same_answer (Full n) e = refl
+    same_answer (Ok n) e = ap (λ (f : File). accepted f (moved c n)) (same_found n e)
+    same_answer (Err (Faulty n)) e = refl
+    same_answer (Err (Full n)) e = refl
 
 -- FILE AFTER FILE
 module _ (r : Slices) (t u : List ℕ) (c : Saved t u) where

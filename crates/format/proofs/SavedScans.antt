@@ -16,8 +16,9 @@ use Rattle.format.specs.Machine.{Item, byte, end, lines, laid_out, format, Part,
 use Rattle.format.specs.Machine.{is_stuck, in_value, enter, step, final, ends_before, start}
 use Rattle.format.specs.Reading.{no_room, too_many, scan, scan_at}
 use Rattle.format.specs.Saved.{Added, over, kept, added, Saved, crs_before, moved}
-use Rattle.format.specs.declared.Scanned.{Scanned}
-use Rattle.format.specs.declared.Scanned.TheVariants.{Whole, Faulty, Full}
+use Rattle.std.specs.Prelude.{Result, Ok, Err}
+use Rattle.format.specs.declared.Fault.{Fault}
+use Rattle.format.specs.declared.Fault.TheVariants.{Faulty, Full}
 use Rattle.format.proofs.Live.{not_both, Holds, holds_cond, Kept, keep_step, hit}
 use Rattle.format.proofs.Plain.{Plain, PlainNames, plain_names}
 
@@ -112,10 +113,10 @@ tidy_step last b s (after_CR e f i c) =
     subst (λ (x : State). Tidy b (step x b)) (sym i) (clean (holds_cond Clean (eqb b lf) (at f) stuck c tt))
 
 -- a verdict with its place moved
-abbrev pub placed : (ℕ → ℕ) → Scanned → Scanned
-placed g (Whole k) = Whole (g k)
-placed g (Faulty k) = Faulty (g k)
-placed g (Full k) = Full (g k)
+abbrev pub placed : (ℕ → ℕ) → Result ℕ Fault → Result ℕ Fault
+placed g (Ok k) = Ok (g k)
+placed g (Err (Faulty k)) = Err (Faulty (g k))
+placed g (Err (Full k)) = Err (Full (g k))
 
 -- LF and CR neither begin a further file nor a line of values
 no_line : (s : State) (b : ℕ) → starts_line b ≡ false → too_many s b ≡ false
@@ -124,8 +125,8 @@ no_line (at f) b e = ap (λ (q : Bool). no_room f && q) e ∙ and-false (no_room
 no_line (value p k f) b e = refl
 
 -- one byte of a scan
-turn : ℕ → Bool → Bool → Bool → Scanned → Scanned
-turn k o f d v = cond o (Whole k) (cond f (Full k) (cond d (Faulty k) v))
+turn : ℕ → Bool → Bool → Bool → Result ℕ Fault → Result ℕ Fault
+turn k o f d v = cond o (Ok k) (cond f (Err (Full k)) (cond d (Err (Faulty k)) v))
 
 scan_turn :
     (s : State) (k b : ℕ) (t : List ℕ)
@@ -136,17 +137,17 @@ scan_turn s k b t = refl
 turn_placed :
     (g : ℕ → ℕ) (k k' : ℕ)
     → g k ≡ k'
-    → (o f d : Bool) (v w : Scanned)
+    → (o f d : Bool) (v w : Result ℕ Fault)
     → w ≡ placed g v
     → turn k' o f d w ≡ placed g (turn k o f d v)
 unfolding turn
-turn_placed g k k' e true f d v w h = ap Whole (sym e)
-turn_placed g k k' e false true d v w h = ap Full (sym e)
-turn_placed g k k' e false false true v w h = ap Faulty (sym e)
+turn_placed g k k' e true f d v w h = ap Ok (sym e)
+turn_placed g k k' e false true d v w h = ap (λ (x : ℕ). Err (Full x)) (sym e)
+turn_placed g k k' e false false true v w h = ap (λ (x : ℕ). Err (Faulty x)) (sym e)
 turn_placed g k k' e false false false v w h = h
 
 module _ (s : State) (k b : ℕ) (t : List ℕ) (o : ends_before s b ≡ false) (f : too_many s b ≡ false) where
-  stops : step s b ≡ stuck → scan s k (b ∷ t) ≡ Faulty k
+  stops : step s b ≡ stuck → scan s k (b ∷ t) ≡ Err (Faulty k)
   unfolding turn
   stops e = scan_turn s k b t ∙ rw (o, f, e)
 
@@ -196,9 +197,9 @@ module _ (g : ℕ → ℕ) (k k' last : ℕ) where
   meet_added t u n c h q = let e : k + 1 + q ≡ k + suc q = omega arith in ap g e ∙ h (suc q) ∙ omega arith
 
 -- THE SAME WAY: from corresponding places on the verdict is the same, its place moved
-end_placed : (g : ℕ → ℕ) (k k' : ℕ) → g k ≡ k' → (f : Bool) → cond f (Whole k') (Faulty k') ≡ placed g (cond f (Whole k) (Faulty k))
-end_placed g k k' e true = ap Whole (sym e)
-end_placed g k k' e false = ap Faulty (sym e)
+end_placed : (g : ℕ → ℕ) (k k' : ℕ) → g k ≡ k' → (f : Bool) → cond f (Ok k') (Err (Faulty k')) ≡ placed g (cond f (Ok k) (Err (Faulty k)))
+end_placed g k k' e true = ap Ok (sym e)
+end_placed g k k' e false = ap (λ (x : ℕ). Err (Faulty x)) (sym e)
 
 was_clean : (last : ℕ) (s : State) → (last ≡ cr → ⊥) → Tidy last s → Holds Clean s
 was_clean last s n (clean c) = c
@@ -232,7 +233,7 @@ same_way g (added last t u n c) s k k' y h =
         → scan s k' (cr ∷ lf ∷ u) ≡ placed g (scan s k (lf ∷ t))
     by (never l r) go =
         stops s k' cr (lf ∷ u) cr_goes_on (no_line s cr refl) r
-        ∙ ap Faulty (sym (meet_here g k k' last (added last t u n c) h))
+        ∙ ap (λ (x : ℕ). Err (Faulty x)) (sym (meet_here g k k' last (added last t u n c) h))
         ∙ ap (placed g) (sym (stops s k lf t lf_goes_on (no_line s lf refl) l))
     by (ending f l r) go =
         goes s k' cr (lf ∷ u) cr_goes_on (no_line s cr refl) (byte lf ∷ f) r

@@ -14,8 +14,9 @@ use Rattle.format.specs.Grammar.{file_text}
 use Rattle.format.specs.Machine.{Item, byte, end, lines, State, stuck, at, value, is_stuck, enter, step, final, ends_before, start, run, From}
 use Rattle.format.specs.Language.{Begins, Follows, Stands}
 use Rattle.format.specs.Reading.{no_room, too_many, scan}
-use Rattle.format.specs.declared.Scanned.{Scanned}
-use Rattle.format.specs.declared.Scanned.TheVariants.{Whole, Faulty, Full}
+use Rattle.std.specs.Prelude.{Result, Ok, Err}
+use Rattle.format.specs.declared.Fault.{Fault}
+use Rattle.format.specs.declared.Fault.TheVariants.{Faulty, Full}
 use Rattle.format.proofs.Live.{not_both, both, Good, good_step, complete, live, dead, is_stuck_lem}
 use Rattle.format.proofs.Places.{Past, Later, here_end, here_byte, later, same_place}
 use Rattle.format.proofs.Accepts.{ends_final, ends_m}
@@ -118,13 +119,13 @@ pub record Ended (s : State) (t : List ℕ) (k n : ℕ) : Type 0 where
   pub rests : Rests s t
   pub here : n ≡ k + length rests.first
 
-abbrev pub Claim : State → List ℕ → ℕ → Scanned → Type 0
-Claim s t k (Whole n) = Ended s t k n
-Claim s t k (Faulty p) = Later (Rests s) t k p
-Claim s t k (Full p) = Later (Rests s) t k p
+abbrev pub Claim : State → List ℕ → ℕ → Result ℕ Fault → Type 0
+Claim s t k (Ok n) = Ended s t k n
+Claim s t k (Err (Faulty p)) = Later (Rests s) t k p
+Claim s t k (Err (Full p)) = Later (Rests s) t k p
 
 -- the text ends here
-at_end_lem : (s : State) (k : ℕ) → Good s → is_stuck s ≡ false → (f : Bool) → final s ≡ f → Claim s [] k (cond f (Whole k) (Faulty k))
+at_end_lem : (s : State) (k : ℕ) → Good s → is_stuck s ≡ false → (f : Bool) → final s ≡ f → Claim s [] k (cond f (Ok k) (Err (Faulty k)))
 unfolding run
 at_end_lem s k g n true e =
     record { rests = record { first = []; rest = []; is = refl; whole = e; follows = tt }; here = omega arith }
@@ -162,17 +163,17 @@ module _ (s : State) (b : ℕ) (t : List ℕ) (k : ℕ) where
         place = later (Rests s) b t l.past (same_place (Rests (step s b)) (Past (Rests s) b) (past_step s b o) t l.past l.place);
       }
 
-  lift : ends_before s b ≡ false → (v : Scanned) → Claim (step s b) t (k + 1) v → Claim s (b ∷ t) k v
+  lift : ends_before s b ≡ false → (v : Result ℕ Fault) → Claim (step s b) t (k + 1) v → Claim s (b ∷ t) k v
   unfolding past_step
-  lift o (Whole n) c =
+  lift o (Ok n) c =
       record { rests = (past_step s b o t).0 c.rests; here = c.here ∙ omega arith }
-  lift o (Faulty p) c = one_more o p c
-  lift o (Full p) c = one_more o p c
+  lift o (Err (Faulty p)) c = one_more o p c
+  lift o (Err (Full p)) c = one_more o p c
 
   -- the three tests of a byte
-  turn : Good s → is_stuck s ≡ false → (v : Scanned) → (is_stuck (step s b) ≡ false → Claim (step s b) t (k + 1) v)
+  turn : Good s → is_stuck s ≡ false → (v : Result ℕ Fault) → (is_stuck (step s b) ≡ false → Claim (step s b) t (k + 1) v)
       → (o f e : Bool) → ends_before s b ≡ o → too_many s b ≡ f → is_stuck (step s b) ≡ e
-      → Claim s (b ∷ t) k (cond o (Whole k) (cond f (Full k) (cond e (Faulty k) v)))
+      → Claim s (b ∷ t) k (cond o (Ok k) (cond f (Err (Full k)) (cond e (Err (Faulty k)) v)))
   turn g n v r true f e x y z = file_over x
   turn g n v r false true e x y z = refused_here g n x (too_many_stuck s b y)
   turn g n v r false false true x y z = refused_here g n x z

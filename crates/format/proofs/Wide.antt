@@ -17,8 +17,9 @@ use Rattle.format.specs.Machine.{Item, byte, end, lines, laid, laid_out, format,
 use Rattle.format.specs.Machine.{in_value, enter, step, ended, final, ends_before, start, run}
 use Rattle.format.specs.Language.{Begins}
 use Rattle.format.specs.Reading.{no_room, too_many, scan}
-use Rattle.format.specs.declared.Scanned.{Scanned}
-use Rattle.format.specs.declared.Scanned.TheVariants.{Whole, Faulty, Full}
+use Rattle.std.specs.Prelude.{Result, Ok, Err}
+use Rattle.format.specs.declared.Fault.{Fault}
+use Rattle.format.specs.declared.Fault.TheVariants.{Faulty, Full}
 use Rattle.format.proofs.Live.{not_both, both, Quiet, Sound, Good, good_step}
 use Rattle.format.proofs.Changed.{with, with_final, with_stuck, with_cond, with_ends, with_value}
 use Rattle.format.proofs.Scans.{Rests, finished, past_step}
@@ -183,26 +184,26 @@ pub record Longer (s : State) (t : List ℕ) (k p : ℕ) : Type 0 where
   pub starts : starts_line (get_or t past 0) ≡ true
   pub begins : Begins (Rests (wide s)) (take (suc past) t)
 
-abbrev pub Wider : State → List ℕ → ℕ → Scanned → Type 0
-Wider s t k (Whole n) = scan (wide s) k t ≡ Whole n
-Wider s t k (Faulty p) = scan (wide s) k t ≡ Faulty p
-Wider s t k (Full p) = Longer s t k p
+abbrev pub Wider : State → List ℕ → ℕ → Result ℕ Fault → Type 0
+Wider s t k (Ok n) = scan (wide s) k t ≡ Ok n
+Wider s t k (Err (Faulty p)) = scan (wide s) k t ≡ Err (Faulty p)
+Wider s t k (Err (Full p)) = Longer s t k p
 
 -- at the text's end
-wide_end : (s : State) (k : ℕ) (f : Bool) → final s ≡ f → Wider s [] k (cond f (Whole k) (Faulty k))
+wide_end : (s : State) (k : ℕ) (f : Bool) → final s ≡ f → Wider s [] k (cond f (Ok k) (Err (Faulty k)))
 unfolding scan
 wide_end s k true e = rw (wide_final s, e)
 wide_end s k false e = rw (wide_final s, e)
 
 module _ (s : State) (b : ℕ) (t : List ℕ) (k : ℕ) where
-  wide_over : ends_before s b ≡ true → scan (wide s) k (b ∷ t) ≡ Whole k
+  wide_over : ends_before s b ≡ true → scan (wide s) k (b ∷ t) ≡ Ok k
   unfolding scan
   wide_over e = rw (wide_final s, e)
 
   wide_goes :
       ends_before s b ≡ false
       → too_many s b ≡ false
-      → scan (wide s) k (b ∷ t) ≡ cond (is_stuck (step s b)) (Faulty k) (scan (wide (step s b)) (k + 1) t)
+      → scan (wide s) k (b ∷ t) ≡ cond (is_stuck (step s b)) (Err (Faulty k)) (scan (wide (step s b)) (k + 1) t)
   unfolding scan
   wide_goes o f = rw (wide_final s, o, wide_few s b, wide_step b s f, with_stuck widen (step s b))
 
@@ -241,16 +242,16 @@ module _ (s : State) (b : ℕ) (t : List ℕ) (k : ℕ) where
       ends_before s b ≡ false
       → too_many s b ≡ false
       → is_stuck (step s b) ≡ false
-      → (v : Scanned)
+      → (v : Result ℕ Fault)
       → Wider (step s b) t (k + 1) v
       → Wider s (b ∷ t) k v
-  wide_lift o f e (Whole n) w = wide_goes o f ∙ rw e w
-  wide_lift o f e (Faulty n) w = wide_goes o f ∙ rw e w
-  wide_lift o f e (Full p) w = wide_later o f p w
+  wide_lift o f e (Ok n) w = wide_goes o f ∙ rw e w
+  wide_lift o f e (Err (Faulty n)) w = wide_goes o f ∙ rw e w
+  wide_lift o f e (Err (Full p)) w = wide_later o f p w
 
-  wide_turn : Good s → (v : Scanned) → Wider (step s b) t (k + 1) v
+  wide_turn : Good s → (v : Result ℕ Fault) → Wider (step s b) t (k + 1) v
       → (o f e : Bool) → ends_before s b ≡ o → too_many s b ≡ f → is_stuck (step s b) ≡ e
-      → Wider s (b ∷ t) k (cond o (Whole k) (cond f (Full k) (cond e (Faulty k) v)))
+      → Wider s (b ∷ t) k (cond o (Ok k) (cond f (Err (Full k)) (cond e (Err (Faulty k)) v)))
   wide_turn g v r true f e x y z = wide_over x
   wide_turn g v r false true e x y z = wide_here g x y
   wide_turn g v r false false true x y z = wide_goes x y ∙ rw z

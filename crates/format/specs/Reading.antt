@@ -1,7 +1,7 @@
 -- Reading one file at a position of a text (paper 01, "The month file" and "Why a month comes back", 11 and 12): the verdict by the
 -- machine, with the values; and below it what paper 01 says of the answer, with no machine. proofs/Answers.antt proves that the answer is
 -- so, and that nothing else is. Assumes nothing.
-use Rattle.std.specs.Prelude.{ℕ, suc, ◌+◌, ◌≤◌, ◌<◌, min, ◌≡◌, ◌⊎◌, Bool, true, false, cond, ◌&&◌, List, [], ◌∷◌, ◌++◌, eqb, length, take, drop, get_or, ℤ}
+use Rattle.std.specs.Prelude.{ℕ, suc, ◌+◌, ◌≤◌, ◌<◌, min, ◌≡◌, ◌⊎◌, Bool, true, false, cond, ◌&&◌, List, [], ◌∷◌, ◌++◌, eqb, length, take, drop, get_or, ℤ, Result, Ok, Err}
 use Rattle.std.proofs.Common.{arith, drop_of_length-le}
 use Rattle.std.proofs.Math.Seq.{drop-length}
 use Rattle.format.specs.Bytes.{starts_line}
@@ -11,8 +11,8 @@ use Rattle.format.specs.Grammar.{Ends, File, kinds_of, file_text, Fits}
 use Rattle.format.specs.Machine.{Item, byte, end, lines, State, stuck, at, value, is_stuck, step, final, ends_before, start}
 use Rattle.format.specs.Language.{Begins, Place, Follows, Stands}
 use Rattle.format.specs.Values.{read_blocks, file_of}
-use Rattle.format.specs.declared.Scanned.{Scanned}
-use Rattle.format.specs.declared.Scanned.TheVariants.{Whole, Faulty, Full}
+use Rattle.format.specs.declared.Fault.{Fault}
+use Rattle.format.specs.declared.Fault.TheVariants.{Faulty, Full}
 
 -- the block whose lines come next has no room for one more
 abbrev pub no_room : List Item → Bool
@@ -30,16 +30,16 @@ too_many (at f) b = no_room f && starts_line b
 too_many (value p k f) b = false
 
 -- from state s, at the place k: 11 or 12, whichever byte comes first, or where the file ends
-unfoldable pub scan : State → ℕ → List ℕ → Scanned
-scan s k [] = cond (final s) (Whole k) (Faulty k)
+unfoldable pub scan : State → ℕ → List ℕ → Result ℕ Fault
+scan s k [] = cond (final s) (Ok k) (Err (Faulty k))
 scan s k (b ∷ t) =
-    cond (ends_before s b) (Whole k)
-    (cond (too_many s b) (Full k)
-    (cond (is_stuck (step s b)) (Faulty k)
+    cond (ends_before s b) (Ok k)
+    (cond (too_many s b) (Err (Full k))
+    (cond (is_stuck (step s b)) (Err (Faulty k))
     (scan (step s b) (k + 1) t)))
 
 -- one file from a position; "a position past the end counts as the end"
-unfoldable pub scan_at : Slices → List ℕ → ℕ → Scanned
+unfoldable pub scan_at : Slices → List ℕ → ℕ → Result ℕ Fault
 scan_at r t from = scan (start r) (min from (length t)) (drop from t)
 
 -- reading's answer: the file's values and the position after it, or paper 01's number and place
@@ -48,10 +48,10 @@ pub data ReadingAnswer : Type 0 where
   refused : ℕ → ℕ → ReadingAnswer
 
 -- a verdict as an answer, with paper 01's number
-abbrev pub answer : File → Scanned → ReadingAnswer
-answer f (Whole n) = accepted f n
-answer f (Faulty p) = refused 11 p
-answer f (Full p) = refused 12 p
+abbrev pub answer : File → Result ℕ Fault → ReadingAnswer
+answer f (Ok n) = accepted f n
+answer f (Err (Faulty p)) = refused 11 p
+answer f (Err (Full p)) = refused 12 p
 
 -- READING: the verdict on the file at the position, and where it is whole the file's values
 unfoldable pub reading : Slices → List ℕ → ℕ → ReadingAnswer

@@ -1,9 +1,9 @@
-// Reading's verdict on one file of a text: whole up to a place, or refused there with 11 or 12 (paper 01, "Why a month comes back").
+// Why a file of a text comes back, and at which byte (paper 01, "Why a month comes back", 11 and 12). Where it is whole, the answer is the
+// place after it.
 #![tactic(auto)]
 
-#[derive(Clone, Copy)]
-pub enum Scanned {
-    Whole(usize),
+#[derive(Clone, Copy, Debug, PartialEq, Eq)]
+pub enum Fault {
     Faulty(usize),
     Full(usize),
 }

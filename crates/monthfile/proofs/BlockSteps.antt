@@ -1,130 +1,119 @@
--- Reading's verdict (format's `scan`) over names, and after the last block. Assumes nothing.
-use Prim.Native.Nat.{ℕ, ◌+◌, ◌-◌, ◌≤◌, ◌<◌, min}
-use mathlib.Core.Path.{◌≡◌, refl, ap, sym, ◌∙◌, subst}
-use mathlib.Core.List.{List, [], ◌∷◌, ◌++◌, map}
-use native.Mathlib.Omega.{arith}
-use native.Mathlib.Decide.{dec_le}
-use lib.ListN.{length, drop, get_or, drop_of_length-le}
-use borrow.Author.Tests.{eq-eqb, ne_eqb}
+-- Reading's verdict (format's `scan`) over names, blocks one after the other, and after the last. Assumes nothing.
+use Rattle.std.proofs.Common.{ℕ, ◌+◌, ◌≤◌, ◌<◌, ◌≡◌, refl, ap, sym, ◌∙◌, subst, true, false, List, [], ◌∷◌, ◌++◌, map, min, length, drop, get_or, Result, Ok, Err}
+use lib.ListN.{drop_of_length-le}
+use mathlib.Core.Bool.{false≢true}
+use lib.Seq.{drop-cons}
+use native.Mathlib.Numerals.{add-one}
 use Rattle.format.specs.Bytes.{bytes, m}
-use Rattle.format.specs.Blocks.{one, up_to, month, agents, users, points, kinds, Slices, slices, blocks_of}
+use Rattle.format.specs.Blocks.{one, month, users, points, kinds, slices, blocks_of}
 use Rattle.format.specs.Grammar.{entries}
-use Rattle.format.specs.Machine.{Item, byte, end, laid_out, format, State, at, start, enter, step}
+use Rattle.format.specs.Machine.{Item, byte, end, lines, laid_out, format, at, value, fresh, start, enter, step}
 use Rattle.format.specs.Reading.{scan, scan_at}
-use Rattle.format.specs.declared.Scanned.{Scanned}
-use Rattle.format.specs.declared.Scanned.TheVariants.{Whole, Faulty, Full}
-use Rattle.monthfile.specs.Passing.{verdict, and_then, Within, Passes, Continues, at_end, at_names, at_block}
-use Rattle.monthfile.proofs.ValueSteps.{here}
+use Rattle.format.specs.declared.Fault.{Fault}
+use Rattle.format.specs.declared.Fault.TheVariants.{Faulty}
+use Rattle.monthfile.specs.declared.cursor.Cursor.{Cursor}
+use Rattle.monthfile.specs.Cursor.{rest, file_ends}
+use Rattle.monthfile.specs.Passing.{verdict, Before, Leads, Refuses, Passes, Taken, Missing, at_end, at_names}
+use Rattle.monthfile.proofs.Joining.{none, further, later, taken, missing, alike, before, before_refused}
+use Rattle.monthfile.proofs.LineSteps.{byte_on, no_byte}
 
--- a byte of names
-abbrev expects : ℕ → List Item → State
-expects c f = at (byte c ∷ f)
+-- NAMES of a block; n of their bytes are passed
+pub no_names : (c : Cursor) (names : List ℕ) → Leads c (at_names names) c (at_names (drop 0 names))
+no_names c names = none c (at_names names)
 
-module _ (c : ℕ) (f : List Item) (i b : ℕ) (u : List ℕ) where
-  name_scan : b ≡ c → scan (expects c f) i (b ∷ u) ≡ scan (at f) (i + 1) u
-  unfolding scan step enter
-  name_scan e = rw (eq-eqb b c e)
+module _ (c d : Cursor) (names : List ℕ) (n : ℕ) (l : Leads c (at_names names) d (at_names (drop n names))) where
+  -- the next byte
+  abbrev next : List Item → List Item
+  next f = map byte (drop (n + 1) names) ++ (end ∷ f)
 
-  other_scan : (b ≡ c → ⊥) → scan (expects c f) i (b ∷ u) ≡ Faulty i
-  unfolding scan step enter
-  other_scan e = rw (ne_eqb b c e)
+  abbrev awaited : Before
+  awaited f = at (byte (get_or names n 0) ∷ next f)
 
-none_scan : (c : ℕ) (f : List Item) (i : ℕ) → scan (expects c f) i [] ≡ Faulty i
-unfolding scan
-none_scan c f i = refl
+  awaits : n < length names → Leads c (at_names names) d awaited
+  awaits h =
+      let e : drop n names ≡ get_or names n 0 ∷ drop (n + 1) names = rw add-one (drop-cons names n 0 h) in
+      subst (λ (ns : List ℕ). Leads c (at_names names) d (at_names ns)) e l
 
-module _ (t : List ℕ) (i c : ℕ) (f : List Item) where
-  pub name_on : i < length t → get_or t i 0 ≡ c → verdict t (expects c f) i ≡ verdict t (at f) (i + 1)
-  name_on h e = rw (here t i h) (name_scan c f i (get_or t i 0) (drop (i + 1) t) e)
+  pub name_taken : (e : Cursor) → n < length names → Taken (get_or names n 0) d e → Leads c (at_names names) e (at_names (drop (n + 1) names))
+  name_taken e h t =
+      further c d e (at_names names) awaited (at_names (drop (n + 1) names)) (awaits h)
+      (taken _ d awaited (at_names (drop (n + 1) names)) e (λ f. byte_on d.at (next f) (get_or names n 0) (rest d)) t)
 
-  pub name_stuck : i < length t → (get_or t i 0 ≡ c → ⊥) → verdict t (expects c f) i ≡ Faulty i
-  name_stuck h e = rw (here t i h) (other_scan c f i (get_or t i 0) (drop (i + 1) t) e)
+  pub name_missing : (e : Fault) → n < length names → Missing (get_or names n 0) d e → Refuses c (at_names names) e
+  name_missing e h t =
+      later c d (at_names names) awaited e (awaits h)
+      (missing _ d awaited (at_names (drop (n + 1) names)) e (λ f. no_byte d.at (next f) (get_or names n 0) (rest d)) t)
 
-  pub name_end : length t ≤ i → verdict t (expects c f) i ≡ Faulty i
-  name_end h = rw (drop_of_length-le t h) (none_scan c f i)
+  -- after them the line's end
+  pub names_over : length names ≤ n → Leads c (at_names names) d at_end
+  names_over h = subst (λ (ns : List ℕ). Leads c (at_names names) d (at_names ns)) (drop_of_length-le names h) l
 
--- names from the k-th byte on
-module _ (t names : List ℕ) (i k : ℕ) (l : k < length names) (f : List Item) where
-  pub names_on :
-      i < length t
-      → get_or t i 0 ≡ get_or names k 0
-      → verdict t (at_names (drop k names) f) i ≡ verdict t (at_names (drop (k + 1) names) f) (i + 1)
-  names_on h e = rw (here names k l) (name_on t i (get_or names k 0) (map byte (drop (k + 1) names) ++ (end ∷ f)) h e)
+-- the one line of the month's block begins at once
+only_scan : (k : ℕ) (f : List Item) (i : ℕ) (u : List ℕ) → scan (at (lines one k ∷ f)) i u ≡ scan (value fresh k f) i u
+unfolding scan step enter
+only_scan k f i [] = refl
+only_scan k f i (b ∷ u) = refl
 
-  pub names_stuck : i < length t → (get_or t i 0 ≡ get_or names k 0 → ⊥) → verdict t (at_names (drop k names) f) i ≡ Faulty i
-  names_stuck h e = rw (here names k l) (name_stuck t i (get_or names k 0) (map byte (drop (k + 1) names) ++ (end ∷ f)) h e)
+-- THE BLOCKS OF A FILE, and what comes after each, for so many lines
+module _ (a u p : ℕ) where
+  abbrev pub after_month : List Item
+  after_month = laid_out (blocks_of kinds (slices a u p))
 
-  pub names_cut : length t ≤ i → verdict t (at_names (drop k names) f) i ≡ Faulty i
-  names_cut h = rw (here names k l) (name_end t i (get_or names k 0) (map byte (drop (k + 1) names) ++ (end ∷ f)) h)
+  abbrev pub after_agents : List Item
+  after_agents = laid_out (blocks_of (users ∷ points ∷ []) (u ∷ p ∷ []))
 
--- after them the line's end
-pub names_over : (t names : List ℕ) (i k : ℕ) → length names ≤ k → (f : List Item) → verdict t (at_names (drop k names) f) i ≡ verdict t (at_end f) i
-names_over t names i k h f = ap (λ (ns : List ℕ). verdict t (at_names ns f) i) (drop_of_length-le names h)
+  abbrev pub after_users : List Item
+  after_users = laid_out (blocks_of (points ∷ []) (p ∷ []))
 
--- after the last block
-module _ (i b : ℕ) (u : List ℕ) where
-  m_scan : b ≡ m → scan (at []) i (b ∷ u) ≡ Whole i
-  unfolding scan step enter
-  m_scan e = rw (eq-eqb b m e)
+  abbrev pub begun : Before
+  begun f = start (slices a u p)
 
-  rest_scan : (b ≡ m → ⊥) → scan (at []) i (b ∷ u) ≡ Faulty i
-  unfolding scan step enter
-  rest_scan e = rw (ne_eqb b m e)
-
-over_scan : (i : ℕ) → scan (at []) i [] ≡ Whole i
-unfolding scan
-over_scan i = refl
-
-module _ (t : List ℕ) (i : ℕ) where
-  pub over : length t ≤ i → Whole i ≡ verdict t (at []) i
-  over h = rw (drop_of_length-le t h) (sym (over_scan i))
-
-  pub over_m : i < length t → get_or t i 0 ≡ m → Whole i ≡ verdict t (at []) i
-  over_m h e = rw (here t i h) (sym (m_scan i (get_or t i 0) (drop (i + 1) t) e))
-
-  pub over_not : i < length t → (get_or t i 0 ≡ m → ⊥) → Faulty i ≡ verdict t (at []) i
-  over_not h e = rw (here t i h) (sym (rest_scan i (get_or t i 0) (drop (i + 1) t) e))
-
--- what the end of a file says, after what was passed
-pub ends : (t : List ℕ) (n : ℕ) {r o : Scanned} → r ≡ Whole n → o ≡ verdict t (at []) n → Within t 0 o
-    → (o ≡ and_then r (λ k. verdict t (at []) k)) × Within t 0 o
-ends t n e v w = (v ∙ sym (ap (λ (x : Scanned). and_then x (λ k. verdict t (at []) k)) e), w)
-
-module _ (t : List ℕ) (p : ℕ) {r : Scanned} where
-  pub stays_faulty : r ≡ Faulty p → Within t 0 r → (Faulty p ≡ and_then r (λ k. verdict t (at []) k)) × Within t 0 (Faulty p)
-  stays_faulty e w = (sym (ap (λ (x : Scanned). and_then x (λ k. verdict t (at []) k)) e), subst (Within t 0) e w)
-
-  pub stays_full : r ≡ Full p → Within t 0 r → (Full p ≡ and_then r (λ k. verdict t (at []) k)) × Within t 0 (Full p)
-  stays_full e w = (sym (ap (λ (x : Scanned). and_then x (λ k. verdict t (at []) k)) e), subst (Within t 0) e w)
-
--- THE BLOCKS OF A FILE one after the other
-module _ (t : List ℕ) (i a u p : ℕ) {m ra ru rp : Scanned} where
-  pub blocks_passed :
-      Passes t i (at_block (entries (map bytes month)) one 1) at m
-      → Continues t m (at_block (entries (map bytes agents)) (up_to a) (length agents - 1)) at ra
-      → Continues t ra (at_block (entries (map bytes users)) (up_to u) (length users - 1)) at ru
-      → Continues t ru (at_block (entries (map bytes points)) (up_to p) (length points - 1)) at rp
-      → verdict t (start (slices a u p)) i ≡ and_then rp (λ n. verdict t (at []) n)
+  pub month_names : (c d : Cursor) → Leads c (at_names (entries (map bytes month))) d at → Leads c begun d (λ f. value fresh 1 after_month)
   unfolding format
-  blocks_passed x y z w =
-      x.goes (laid_out (blocks_of kinds (slices a u p)))
-      ∙ y.goes (laid_out (blocks_of (users ∷ points ∷ []) (u ∷ p ∷ [])))
-      ∙ z.goes (laid_out (blocks_of (points ∷ []) (p ∷ [])))
-      ∙ w.goes []
+  month_names c d l =
+      let g : List Item → List Item = λ f. lines one 1 ∷ after_month in
+      further c d d begun (λ f. at (g f)) (λ f. value fresh 1 after_month) (before c d (at_names (entries (map bytes month))) at g l)
+      (alike d (λ f. at (g f)) (λ f. value fresh 1 after_month) (λ f. only_scan 1 after_month d.at (rest d)))
 
--- three slices by their lengths
-pub three : (r : List ℕ) → length r ≡ 3 → r ≡ get_or r 0 0 ∷ get_or r 1 0 ∷ get_or r 2 0 ∷ []
-three [] e = absurd (omega arith)
-three (a ∷ []) e = absurd (omega arith)
-three (a ∷ (u ∷ [])) e = absurd (omega arith)
-three (a ∷ (u ∷ (p ∷ []))) e = refl
-three (a ∷ (u ∷ (p ∷ (x ∷ r)))) e = absurd (omega arith)
+  pub month_refused : (c : Cursor) (e : Fault) → Refuses c (at_names (entries (map bytes month))) e → Refuses c begun e
+  unfolding format
+  month_refused c e q = before_refused c (at_names (entries (map bytes month))) (λ f. lines one 1 ∷ after_month) e q
 
--- a position past the end counts as the end
-pub at_position : (r : Slices) (t : List ℕ) (from k : ℕ) → k ≡ min from (length t) → verdict t (start r) k ≡ scan_at r t from
-unfolding scan_at
-at_position r t from k e = ap (scan (start r) k) (by (dec_le (length t) from)) ∙ ap (λ (n : ℕ). scan (start r) n (drop from t)) e
-  where
-    by : Dec (length t ≤ from) → drop k t ≡ drop from t
-    by (yes h) = let l : length t ≤ k = omega arith in drop_of_length-le t l ∙ sym (drop_of_length-le t h)
-    by (no h) = let l : k ≡ from = omega (arith, h) in ap (λ (n : ℕ). drop n t) l
+  -- a part that these items follow
+  module _ (f : List Item) (c d : Cursor) (s : Before) (l : Leads c begun d (λ g. s f)) where
+    pub goes_on : (e : Cursor) (s' : Before) → Leads d s e s' → Leads c begun e (λ g. s' f)
+    goes_on e s' m = further c d e begun (λ g. s f) (λ g. s' f) l (before d e s s' (λ g. f) m)
+
+    pub goes_back : (x : Fault) → Refuses d s x → Refuses c begun x
+    goes_back x q = later c d begun (λ g. s f) x l (before_refused d s (λ g. f) x q)
+
+    pub ends : (e : Cursor) (s' : Before) (r : Result Unit Fault) → Passes d s e s' r → Passes c begun e (λ g. s' f) r
+    ends e s' (Ok x) m = goes_on e s' m
+    ends e s' (Err x) q = goes_back x q
+
+-- the end of a file
+over : (i : ℕ) (u : List ℕ) → file_ends u ≡ true → scan (at []) i u ≡ Ok i
+unfolding scan step enter
+over i [] e = refl
+over i (b ∷ u) e = rw e
+
+not_over : (i : ℕ) (u : List ℕ) → file_ends u ≡ false → scan (at []) i u ≡ Err (Faulty i)
+unfolding scan step enter
+not_over i [] e = absurd (false≢true (sym e))
+not_over i (b ∷ u) e = rw e
+
+-- THE FILE AT A POSITION: a cursor c there, and d after its blocks
+module _ (a u p : ℕ) (t : List ℕ) (from : ℕ) (c d : Cursor) (e : c.at ≡ min from (length t)) (h : rest c ≡ drop from t) where
+  at_position : verdict c (start (slices a u p)) ≡ scan_at (slices a u p) t from
+  unfolding scan_at
+  at_position = ap (λ (n : ℕ). scan (start (slices a u p)) n (rest c)) e ∙ ap (scan (start (slices a u p)) (min from (length t))) h
+
+  module _ (l : Leads c (begun a u p) d (λ f. at [])) where
+    pub whole : file_ends (rest d) ≡ true → Ok d.at ≡ scan_at (slices a u p) t from
+    whole x = sym (sym at_position ∙ l.goes [] ∙ over d.at (rest d) x)
+
+    pub unfinished : file_ends (rest d) ≡ false → Err (Faulty d.at) ≡ scan_at (slices a u p) t from
+    unfinished x = sym (sym at_position ∙ l.goes [] ∙ not_over d.at (rest d) x)
+
+  pub refused : (x : Fault) → Refuses c (begun a u p) x → Err x ≡ scan_at (slices a u p) t from
+  refused x q = sym (sym at_position ∙ q.found [])

@@ -1,70 +1,86 @@
 -- Parts of the text passed one after the other. Assumes nothing.
-use Prim.Native.Nat.{ℕ, ◌≤◌}
-use mathlib.Core.Path.{◌≡◌, ap, subst, ◌∙◌}
-use mathlib.Core.List.{List}
-use native.Mathlib.Omega.{arith}
-use lib.ListN.{length}
-use Rattle.format.specs.Machine.{Item, State}
-use Rattle.format.specs.declared.Scanned.{Scanned}
-use Rattle.format.specs.declared.Scanned.TheVariants.{Whole, Faulty, Full}
-use Rattle.monthfile.specs.Passing.{verdict, and_then, Within, Passes, Continues}
+use Rattle.std.proofs.Common.{ℕ, ◌+◌, ◌≡◌, refl, true, false, ap, sym, ◌∙◌, drop-drop, List, drop, arith, Result, Ok, Err}
+use Rattle.std.specs.Result.{IsErrAnd}
+use Rattle.std.proofs.lemmas.Result.{err_from_is_err_and}
+use Rattle.format.specs.Machine.{Item}
+use Rattle.format.specs.Reading.{scan}
+use Rattle.format.specs.declared.Fault.{Fault}
+use Rattle.format.specs.declared.Fault.TheVariants.{Faulty}
+use Rattle.monthfile.specs.declared.cursor.Cursor.{Cursor}
+use Rattle.monthfile.specs.Cursor.{rest, byte_here, Passed}
+use Rattle.monthfile.specs.Passing.{verdict, Before, Leads, Refuses, Passes, Taken, Missing, Takes}
 
--- the machine comes from one state and place to another
-abbrev pub Comes : List ℕ → ℕ → (List Item → State) → ℕ → (List Item → State) → Type 0
-Comes t i s j s' = (f : List Item) → verdict t (s f) i ≡ verdict t (s' f) j
+-- nothing is passed
+pub none : (c : Cursor) (s : Before) → Leads c s c s
+none c s = record { goes = λ f. refl }
 
-pub farther : (t : List ℕ) (i j : ℕ) (r : Scanned) → i ≤ j → Within t j r → Within t i r
-farther t i j (Whole n) h w = (omega arith, w.1)
-farther t i j (Faulty p) h w = w
-farther t i j (Full p) h w = w
+-- first one part, then the other; a refusal in either is one of both
+pub further : (c d e : Cursor) (s m s' : Before) → Leads c s d m → Leads d m e s' → Leads c s e s'
+further c d e s m s' p q = record { goes = λ f. p.goes f ∙ q.goes f }
 
-module _ (t : List ℕ) (i : ℕ) (s s' : List Item → State) where
-  -- a refusal here
-  pub faulty : i ≤ length t → ((f : List Item) → verdict t (s f) i ≡ Faulty i) → Passes t i s s' (Faulty i)
-  faulty h e = record { goes = e; within = h }
+pub later : (c d : Cursor) (s m : Before) (e : Fault) → Leads c s d m → Refuses d m e → Refuses c s e
+later c d s m e p q = record { found = λ f. p.goes f ∙ q.found f }
 
-  pub full : i ≤ length t → ((f : List Item) → verdict t (s f) i ≡ Full i) → Passes t i s s' (Full i)
-  full h e = record { goes = e; within = h }
+pub then : (c d e : Cursor) (s m s' : Before) (r : Result Unit Fault) → Leads c s d m → Passes d m e s' r → Passes c s e s' r
+then c d e s m s' (Ok u) p q = further c d e s m s' p q
+then c d e s m s' (Err x) p q = later c d s m x p q
 
-  -- passed up to n
-  pub passed : (n : ℕ) → i ≤ n → n ≤ length t → Comes t i s n s' → Passes t i s s' (Whole n)
-  passed n h k e = record { goes = e; within = (h, k) }
+-- whatever items follow, also such with something before them
+pub before : (c d : Cursor) (s s' : Before) (g : List Item → List Item) → Leads c s d s' → Leads c (λ f. s (g f)) d (λ f. s' (g f))
+before c d s s' g l = record { goes = λ f. l.goes (g f) }
 
-  -- what was learnt of a part is what is answered
-  pub told : {r r' : Scanned} → r ≡ r' → Passes t i s s' r → Passes t i s s' r'
-  told e p = subst (Passes t i s s') e p
+pub before_refused : (c : Cursor) (s : Before) (g : List Item → List Item) (e : Fault) → Refuses c s e → Refuses c (λ f. s (g f)) e
+before_refused c s g e q = record { found = λ f. q.found (g f) }
 
-  -- first some bytes, then the part
-  pub after : (j : ℕ) (m : List Item → State) {r : Scanned} → i ≤ j → Comes t i s j m → Passes t j m s' r → Passes t i s s' r
-  after j m {r} h e p = record { goes = λ f. e f ∙ p.goes f; within = farther t i j r h p.within }
+-- a refusal handed on by `?`
+pub handed : (c d : Cursor) (s s' : Before) (e : Fault) (r : Result Unit Fault) → Refuses c s e → IsErrAnd r (λ (y : Fault). y ≡ e) → Passes c s d s' r
+handed c d s s' e r q h = let p = err_from_is_err_and r h in rw (p.1, p.2) q
 
-  -- a part, and where it ended the next; a refusal in it is one of both
-  pub joined : (m : List Item → State) (n : ℕ) {r o : Scanned} → r ≡ Whole n → Passes t i s m r → Passes t n m s' o → Passes t i s s' o
-  joined m n e p q = let v = subst (Passes t i s m) e p in after n m v.within.0 v.goes q
+-- where bytes are passed the machine goes on with what is left
+pub moved : (c d : Cursor) (n : ℕ) → Passed c d n → rest d ≡ drop n (rest c)
+moved c d n p =
+    let e : c.at + n ≡ n + c.at = omega arith in
+    ap (λ x. drop d.at x.now) p.text ∙ ap (λ (k : ℕ). drop k c.text.now) p.at ∙ sym (drop-drop n c.at c.text.now)
 
-  pub ended_faulty : (m : List Item → State) (n : ℕ) {r : Scanned} → r ≡ Faulty n → Passes t i s m r → Passes t i s s' (Faulty n)
-  ended_faulty m n e p = let v = subst (Passes t i s m) e p in record { goes = v.goes; within = v.within }
+pub leads :
+    (c d : Cursor) (n : ℕ) (s s' : Before)
+    → Passed c d n
+    → ((f : List Item) → scan (s f) c.at (rest c) ≡ scan (s' f) (c.at + n) (drop n (rest c)))
+    → Leads c s d s'
+leads c d n s s' p e =
+    let r = moved c d n p in
+    record { goes = λ f. e f ∙ sym (ap (λ (k : ℕ). scan (s' f) k (rest d)) p.at ∙ ap (scan (s' f) (c.at + n)) r) }
 
-  pub ended_full : (m : List Item → State) (n : ℕ) {r : Scanned} → r ≡ Full n → Passes t i s m r → Passes t i s s' (Full n)
-  ended_full m n e p = let v = subst (Passes t i s m) e p in record { goes = v.goes; within = v.within }
+-- no byte is passed
+pub still : (c d : Cursor) → Passed c d 0 → rest d ≡ rest c
+still c d p = moved c d 0 p
 
-  -- whatever items follow, also such with something before them
-  pub before : (g : List Item → List Item) {r : Scanned} → Passes t i s s' r → Passes t i (λ f. s (g f)) (λ f. s' (g f)) r
-  before g p = record { goes = λ f. p.goes (g f); within = p.within }
+pub stays : (c d : Cursor) (s : Before) → Passed c d 0 → Leads c s d s
+stays c d s p = let z : c.at ≡ c.at + 0 = omega arith in leads c d 0 s s p (λ f. ap (λ (k : ℕ). scan (s f) k (rest c)) z)
 
--- after what was passed: where that did not end, nothing is added
-module _ (t : List ℕ) (s s' : List Item → State) where
-  pub goes_on : {r o : Scanned} (n : ℕ) → r ≡ Whole n → Passes t n s s' o → Continues t r s s' o
-  goes_on {r} {o} n e p =
-      record {
-        goes = λ f. ap (λ (x : Scanned). and_then x (λ k. verdict t (s f) k)) e ∙ p.goes f;
-        within = farther t 0 n o (omega arith) p.within;
-      }
+-- a refusal is found here
+pub refuses : (c : Cursor) (s : Before) (e : Fault) → ((f : List Item) → verdict c (s f) ≡ Err e) → Refuses c s e
+refuses c s e h = record { found = h }
 
-  pub back_faulty : {r : Scanned} (p : ℕ) → r ≡ Faulty p → Within t 0 r → Continues t r s s' (Faulty p)
-  back_faulty p e w =
-      record { goes = λ f. ap (λ (x : Scanned). and_then x (λ k. verdict t (s f) k)) e; within = subst (Within t 0) e w }
+-- the machine does alike in two states
+pub alike : (c : Cursor) (s s' : Before) → ((f : List Item) → verdict c (s f) ≡ verdict c (s' f)) → Leads c s c s'
+alike c s s' e = record { goes = e }
 
-  pub back_full : {r : Scanned} (p : ℕ) → r ≡ Full p → Within t 0 r → Continues t r s s' (Full p)
-  back_full p e w =
-      record { goes = λ f. ap (λ (x : Scanned). and_then x (λ k. verdict t (s f) k)) e; within = subst (Within t 0) e w }
+-- where a byte is looked for that leads from state s to state s', and without which the file comes back
+module _ (b : ℕ) (c : Cursor) (s s' : Before) where
+  pub taken : (d : Cursor)
+      → ((f : List Item) → byte_here b (rest c) ≡ true → scan (s f) c.at (rest c) ≡ scan (s' f) (c.at + 1) (drop 1 (rest c)))
+      → Taken b c d → Leads c s d s'
+  taken d on h = leads c d 1 s s' h.passed (λ f. on f h.here)
+
+  pub missing : (e : Fault)
+      → ((f : List Item) → byte_here b (rest c) ≡ false → scan (s f) c.at (rest c) ≡ Err (Faulty c.at))
+      → Missing b c e → Refuses c s e
+  missing e off h = rw h.fault (refuses c s (Faulty c.at) (λ f. off f h.elsewhere))
+
+  pub takes : (d : Cursor) (r : Result Unit Fault)
+      → ((f : List Item) → byte_here b (rest c) ≡ true → scan (s f) c.at (rest c) ≡ scan (s' f) (c.at + 1) (drop 1 (rest c)))
+      → ((f : List Item) → byte_here b (rest c) ≡ false → scan (s f) c.at (rest c) ≡ Err (Faulty c.at))
+      → Takes b c d r → Passes c s d s' r
+  takes d (Ok u) on off h = taken d on h
+  takes d (Err e) on off h = missing e off h

@@ -1,6 +1,6 @@
--- What a caller learns from the checked contracts of `read_at` and `read`, which take a slice of records: the kit's own reading of the
--- generated clauses (records' `LearntBy`). `read_at_tells` and `read_tells`: it is neither more nor less than the contract. Of `read_lines`
--- and `file_check` it is taken as generated (`Reads.Learnt`). Assumes nothing.
+-- What a caller learns from the checked contracts of `read_at` and `read`, which take slices of records: the kit's own reading of the
+-- generated clauses (records' `LearntBy`). `read_at_tells` and `read_tells`: it is neither more nor less than the contract. Of `file_check`
+-- it is taken as generated (`Reads.Learnt`). Assumes nothing.
 use mathlib.Core.Path.{refl}
 use base.Logic.{id⊢}
 use contract.Lifetimes.{Lfts}
@@ -9,7 +9,7 @@ use borrow.Fn.World.{World, Pr}
 use borrow.Fn.Read.{r_last, all_models}
 use Rattle.records.proofs.Learnt.{Ensures, Reading, LearntBy, Plain, Tells}
 use Rattle.monthfile.specs.contracts.points.read_at as read_at
-use Rattle.monthfile.specs.contracts.reader.read as read
+use Rattle.monthfile.specs.contracts.reader.Reader.read as read
 
 -- ---- read_at
 abbrev pub read_at_required : (κs : Lfts (read_at.signature).lifetimes) → Args read_at.signature κs → (w : World) → Pr w

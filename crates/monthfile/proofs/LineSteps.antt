@@ -1,132 +1,143 @@
 -- Reading's verdict (format's `scan`) between values and where lines begin. Assumes nothing.
-use Prim.Native.Nat.{ℕ, zero, suc, ◌+◌, ◌-◌, ◌≤◌, ◌<◌}
-use mathlib.Core.Path.{◌≡◌, refl, ap, sym, ◌∙◌}
-use mathlib.Core.Bool.{true, false, false≢true, and-false}
-use mathlib.Core.List.{List, [], ◌∷◌}
-use native.Mathlib.Omega.{arith}
-use native.Mathlib.Decide.{dec_le}
-use native.Mathlib.Nat.{not-suc-le-zero}
-use lib.Dec.{eqb}
-use lib.ListN.{length, drop, get_or, drop_of_length-le}
-use borrow.Author.Tests.{eq-eqb, ne_eqb}
+use Rattle.std.proofs.Common.{ℕ, zero, suc, ◌+◌, ◌-◌, ◌<◌, ◌≡◌, refl, ap, sym, ◌∙◌, subst, ◌≤◌, Bool, true, false, cond, List, [], ◌∷◌, drop, eqb, arith, Result, Err}
+use mathlib.Core.Bool.{false≢true, and-false}
+use borrow.Author.Tests.{eqb-true, ne_eqb}
 use Rattle.format.specs.Bytes.{lf, cr, comma, m, starts_line}
-use Rattle.format.specs.Blocks.{one, up_to}
+use Rattle.format.specs.Blocks.{up_to}
 use Rattle.format.specs.Values.{line_here}
-use Rattle.format.specs.Machine.{Item, lines, fresh, nought, at, value, in_value, enter, step, ended}
+use Rattle.format.specs.Machine.{Item, byte, lines, fresh, nought, at, value, in_value, enter, step, ended}
 use Rattle.format.specs.Reading.{no_room, scan}
-use Rattle.format.specs.declared.Scanned.TheVariants.{Faulty, Full}
-use Rattle.monthfile.specs.Passing.{verdict, at_end, after_cr, several}
-use Rattle.monthfile.proofs.ValueSteps.{here, byte_on, byte_stuck}
+use Rattle.format.specs.declared.Fault.{Fault}
+use Rattle.format.specs.declared.Fault.TheVariants.{Faulty, Full}
+use Rattle.monthfile.specs.declared.cursor.Cursor.{Cursor}
+use Rattle.monthfile.specs.Cursor.{rest, byte_here, Passed}
+use Rattle.monthfile.specs.Passing.{Before, Leads, Refuses, Passes, Taken, Missing, Takes, at_end, after_cr, several}
+use Rattle.monthfile.proofs.Joining.{none, leads, stays, still, taken, missing, takes, further, later, then, alike, refuses}
 
--- the byte after a value: a comma, if more values follow on its line
-module _ (t : List ℕ) (c i : ℕ) (h : i < length t) where
-  pub comma_on : get_or t i 0 ≡ comma → (f : List Item) → verdict t (value nought (suc c) f) i ≡ verdict t (value fresh c f) (i + 1)
-  unfolding in_value
-  comma_on e f = byte_on t (suc c) f i h nought (value fresh c f) (rw (eq-eqb (get_or t i 0) comma e)) refl
+module _ (i : ℕ) (f : List Item) where
+  -- the comma after a value, where more values follow on its line
+  pub comma_on : (k : ℕ) (u : List ℕ) → byte_here comma u ≡ true → scan (value nought (suc k) f) i u ≡ scan (value fresh k f) (i + 1) (drop 1 u)
+  unfolding scan step in_value
+  comma_on k [] e = absurd (false≢true e)
+  comma_on k (b ∷ u) e = rw e
 
-  pub comma_stuck : (get_or t i 0 ≡ comma → ⊥) → (f : List Item) → verdict t (value nought (suc c) f) i ≡ Faulty i
-  unfolding in_value
-  comma_stuck e f = byte_stuck t (suc c) f i h nought (rw (ne_eqb (get_or t i 0) comma e))
+  pub no_comma : (k : ℕ) (u : List ℕ) → byte_here comma u ≡ false → scan (value nought (suc k) f) i u ≡ Err (Faulty i)
+  unfolding scan step in_value
+  no_comma k [] e = refl
+  no_comma k (b ∷ u) e = rw e
 
--- where k values follow, k above 0
-pub one_more : (t : List ℕ) (i k : ℕ) → 0 < k → (f : List Item) → verdict t (value fresh k f) i ≡ verdict t (value fresh (suc (k - 1)) f) i
-one_more t i k h f = let e : k ≡ suc (k - 1) = omega arith in ap (λ (n : ℕ). verdict t (value fresh n f) i) e
-
-pub no_more : (t : List ℕ) (i k : ℕ) → k ≤ 0 → (f : List Item) → verdict t (value fresh k f) i ≡ verdict t (value fresh 0 f) i
-no_more t i k h f = let e : k ≡ 0 = omega arith in ap (λ (n : ℕ). verdict t (value fresh n f) i) e
-
--- after the last value comes the line's end
-last_scan : (f : List Item) (i : ℕ) (u : List ℕ) → scan (value nought 0 f) i u ≡ scan (at_end f) i u
-unfolding scan step enter in_value
-last_scan f i [] = refl
-last_scan f i (b ∷ u) = refl
-
-pub last_value : (t : List ℕ) (f : List Item) (i : ℕ) → verdict t (value nought 0 f) i ≡ verdict t (at_end f) i
-last_value t f i = last_scan f i (drop i t)
-
--- the end of a line
-module _ (f : List Item) (i b : ℕ) (u : List ℕ) where
-  end_scan : b ≡ lf → scan (at_end f) i (b ∷ u) ≡ scan (at f) (i + 1) u
+  -- a byte that stands in every file, as those of names and the LF after a CR
+  pub byte_on : (c : ℕ) (u : List ℕ) → byte_here c u ≡ true → scan (at (byte c ∷ f)) i u ≡ scan (at f) (i + 1) (drop 1 u)
   unfolding scan step enter
-  end_scan e = rw (eq-eqb b lf e)
+  byte_on c [] e = absurd (false≢true e)
+  byte_on c (b ∷ u) e = rw e
 
-  cr_scan : b ≡ cr → scan (at_end f) i (b ∷ u) ≡ scan (after_cr f) (i + 1) u
+  pub no_byte : (c : ℕ) (u : List ℕ) → byte_here c u ≡ false → scan (at (byte c ∷ f)) i u ≡ Err (Faulty i)
   unfolding scan step enter
-  cr_scan e = let n = ne_eqb b lf (λ x. omega arith) in rw (n, eq-eqb b cr e)
+  no_byte c [] e = refl
+  no_byte c (b ∷ u) e = rw e
 
-  no_end_scan : (b ≡ lf → ⊥) → (b ≡ cr → ⊥) → scan (at_end f) i (b ∷ u) ≡ Faulty i
+  -- the end of a line: CR and LF, or LF
+  cr_on : (u : List ℕ) → byte_here cr u ≡ true → scan (at_end f) i u ≡ scan (after_cr f) (i + 1) (drop 1 u)
   unfolding scan step enter
-  no_end_scan e n = rw (ne_eqb b lf e, ne_eqb b cr n)
+  cr_on [] e = absurd (false≢true e)
+  cr_on (b ∷ u) e = rw (eqb-true b cr e)
 
-text_over : (f : List Item) (i : ℕ) → scan (at_end f) i [] ≡ Faulty i
-unfolding scan
-text_over f i = refl
+  lf_on : (u : List ℕ) → byte_here lf u ≡ true → scan (at_end f) i u ≡ scan (at f) (i + 1) (drop 1 u)
+  unfolding scan step enter
+  lf_on [] e = absurd (false≢true e)
+  lf_on (b ∷ u) e = rw e
 
-module _ (t : List ℕ) (i : ℕ) (f : List Item) where
-  pub end_on : i < length t → get_or t i 0 ≡ lf → verdict t (at_end f) i ≡ verdict t (at f) (i + 1)
-  end_on h e = rw (here t i h) (end_scan f i (get_or t i 0) (drop (i + 1) t) e)
+  no_end : (u : List ℕ) → byte_here cr u ≡ false → byte_here lf u ≡ false → scan (at_end f) i u ≡ Err (Faulty i)
+  unfolding scan step enter
+  no_end [] c e = refl
+  no_end (b ∷ u) c e = rw (e, c)
 
-  pub end_cr : i < length t → get_or t i 0 ≡ cr → verdict t (at_end f) i ≡ verdict t (after_cr f) (i + 1)
-  end_cr h e = rw (here t i h) (cr_scan f i (get_or t i 0) (drop (i + 1) t) e)
+  -- after the last value comes the line's end
+  pub last_value : (u : List ℕ) → scan (value nought 0 f) i u ≡ scan (at_end f) i u
+  unfolding scan step enter in_value
+  last_value [] = refl
+  last_value (b ∷ u) = refl
 
-  pub end_stuck : i < length t → (get_or t i 0 ≡ lf → ⊥) → (get_or t i 0 ≡ cr → ⊥) → verdict t (at_end f) i ≡ Faulty i
-  end_stuck h e n = rw (here t i h) (no_end_scan f i (get_or t i 0) (drop (i + 1) t) e n)
+-- a CR, if one is here, and then an LF
+pub line_end : (c d e : Cursor) (q : Bool) (r : Result Unit Fault)
+    → q ≡ byte_here cr (rest c) → Passed c d (cond q 1 0) → Takes lf d e r → Passes c at_end e at r
+line_end c d e true r h p g =
+    then c d e at_end after_cr at r (leads c d 1 at_end after_cr p (λ f. cr_on c.at f (rest c) (sym h)))
+    (takes lf d after_cr at e r (λ f. byte_on d.at f lf (rest d)) (λ f. no_byte d.at f lf (rest d)) g)
+line_end c d e false r h p g =
+    let n = ap (byte_here cr) (still c d p) ∙ sym h in
+    then c d e at_end at_end at r (stays c d at_end p)
+    (takes lf d at_end at e r (λ f. lf_on d.at f (rest d)) (λ f. no_end d.at f (rest d) n) g)
 
-  pub end_missing : length t ≤ i → verdict t (at_end f) i ≡ Faulty i
-  end_missing h = rw (drop_of_length-le t h) (text_over f i)
+pub none_passed : (c : Cursor) (commas : ℕ) → Leads c (value fresh commas) c (value fresh (commas - 0))
+none_passed c commas = let e : commas ≡ commas - 0 = omega arith in subst (λ (k : ℕ). Leads c (value fresh commas) c (value fresh k)) e (none c (value fresh commas))
 
--- the one line of a block begins at once
-only_scan : (c : ℕ) (f : List Item) (i : ℕ) (u : List ℕ) → scan (at (lines one c ∷ f)) i u ≡ scan (value fresh c f) i u
-unfolding scan step enter
-only_scan c f i [] = refl
-only_scan c f i (b ∷ u) = refl
+-- VALUES OF A LINE, of so many commas in all; n of them are passed
+module _ (c d : Cursor) (commas n : ℕ) (l : Leads c (value fresh commas) d (value fresh (commas - n))) where
+  -- one more
+  pub one_more : n < commas → Leads c (value fresh commas) d (value fresh (suc (commas - (n + 1))))
+  one_more h = let e : commas - n ≡ suc (commas - (n + 1)) = omega arith in subst (λ (k : ℕ). Leads c (value fresh commas) d (value fresh k)) e l
 
-pub only_line : (t : List ℕ) (c : ℕ) (f : List Item) (i : ℕ) → verdict t (at (lines one c ∷ f)) i ≡ verdict t (value fresh c f) i
-only_line t c f i = only_scan c f i (drop i t)
+  -- the last
+  pub the_last : commas ≤ n → Leads c (value fresh commas) d (value fresh 0)
+  the_last h = let e : commas - n ≡ 0 = omega arith in subst (λ (k : ℕ). Leads c (value fresh commas) d (value fresh k)) e l
+
+-- after a value its comma
+pub comma_taken : (c d : Cursor) (k : ℕ) → Taken comma c d → Leads c (value nought (suc k)) d (value fresh k)
+comma_taken c d k h = taken comma c (value nought (suc k)) (value fresh k) d (λ f. comma_on c.at f k (rest c)) h
+
+pub comma_missing : (c : Cursor) (k : ℕ) (e : Fault) → Missing comma c e → Refuses c (value nought (suc k)) e
+comma_missing c k e h = missing comma c (value nought (suc k)) (value fresh k) e (λ f. no_comma c.at f k (rest c)) h
+
+-- or the line's end
+pub end_next : (c d : Cursor) (r : Result Unit Fault) → Passes c at_end d at r → Passes c (value nought 0) d at r
+end_next c d r p = then c c d (value nought 0) at_end at r (alike c (value nought 0) at_end (λ f. last_value c.at f (rest c))) p
 
 -- a line begins at no `m`
 no_m : (b : ℕ) → starts_line b ≡ true → eqb b m ≡ false
 no_m b e = ne_eqb b m (λ x. false≢true (ap starts_line (sym x) ∙ e))
 
--- a line of a block begins, and there is room for it or not
-module _ (c : ℕ) (f : List Item) (i b : ℕ) (u : List ℕ) (e : starts_line b ≡ true) where
-  line_scan : (r : ℕ) → scan (several (suc r) c f) i (b ∷ u) ≡ scan (value fresh c (lines (up_to r) c ∷ f)) i (b ∷ u)
+-- a line of a block begins, for which there is room or none; or none begins
+module _ (k i : ℕ) (f : List Item) where
+  line_on : (n : ℕ) (u : List ℕ) → line_here u ≡ true → scan (several (suc n) k f) i u ≡ scan (value fresh k (lines (up_to n) k ∷ f)) i u
   unfolding scan step enter
-  line_scan r = let z = ne_eqb (suc r) 0 (λ x. omega arith) in rw (no_m b e, and-false (ended f), e, z)
+  line_on n [] e = absurd (false≢true e)
+  line_on n (b ∷ u) e = let z = ne_eqb (suc n) 0 (λ x. omega arith) in rw (no_m b e, and-false (ended f), e, z)
 
-  full_scan : scan (several 0 c f) i (b ∷ u) ≡ Full i
+  line_full : (u : List ℕ) → line_here u ≡ true → scan (several 0 k f) i u ≡ Err (Full i)
   unfolding scan step enter
-  full_scan = rw (no_m b e, and-false (ended f), e)
+  line_full [] e = absurd (false≢true e)
+  line_full (b ∷ u) e = rw (no_m b e, and-false (ended f), e)
 
--- no line begins
-none_scan : (r c : ℕ) (f : List Item) (i : ℕ) (u : List ℕ) → line_here u ≡ false → scan (several r c f) i u ≡ scan (at f) i u
-unfolding scan step enter
-none_scan r c f i [] e = refl
-none_scan zero c f i (b ∷ u) e = rw (e, and-false (no_room f))
-none_scan (suc r) c f i (b ∷ u) e = let z = ne_eqb (suc r) 0 (λ x. omega arith) in rw (e, and-false (no_room f), z)
+  line_none : (n : ℕ) (u : List ℕ) → line_here u ≡ false → scan (several n k f) i u ≡ scan (at f) i u
+  unfolding scan step enter
+  line_none n [] e = refl
+  line_none zero (b ∷ u) e = rw (e, and-false (no_room f))
+  line_none (suc n) (b ∷ u) e = let z = ne_eqb (suc n) 0 (λ x. omega arith) in rw (e, and-false (no_room f), z)
 
-begins : (t : List ℕ) (i : ℕ) → line_here (drop i t) ≡ true → i < length t
-begins t i e = by (dec_le (length t) i)
-  where
-    by : Dec (length t ≤ i) → i < length t
-    by (yes h) = absurd (false≢true (sym (ap line_here (drop_of_length-le t h)) ∙ e))
-    by (no h) = omega (arith, h)
+-- LINES OF A BLOCK that has room for so many in all; n of them are passed
+pub no_lines : (c : Cursor) (room k : ℕ) → Leads c (several room k) c (several (room - 0) k)
+no_lines c room k = let e : room ≡ room - 0 = omega arith in subst (λ (n : ℕ). Leads c (several room k) c (several n k)) e (none c (several room k))
 
-module _ (t : List ℕ) (c i : ℕ) (f : List Item) where
-  pub line_on : line_here (drop i t) ≡ true → (r : ℕ) → 0 < r → verdict t (several r c f) i ≡ verdict t (value fresh c (lines (up_to (r - 1)) c ∷ f)) i
-  line_on e zero l = absurd (not-suc-le-zero l)
-  line_on e (suc r) l =
-      let h = begins t i e in
-      let n : suc r - 1 ≡ r = omega arith in
-      let s : starts_line (get_or t i 0) ≡ true = sym (ap line_here (here t i h)) ∙ e in
-      rw (n, here t i h) (line_scan c f i (get_or t i 0) (drop (i + 1) t) s r)
+module _ (c d : Cursor) (room k n : ℕ) (l : Leads c (several room k) d (several (room - n) k)) where
+  -- one more
+  pub line_more : n < room → line_here (rest d) ≡ true → Leads c (several room k) d (λ f. value fresh k (lines (up_to (room - (n + 1))) k ∷ f))
+  line_more h e =
+      let m : ℕ = room - (n + 1) in
+      let q : room - n ≡ suc m = omega arith in
+      let s : Before = λ f. value fresh k (lines (up_to m) k ∷ f) in
+      further c d d (several room k) (several (suc m) k) s (subst (λ (x : ℕ). Leads c (several room k) d (several x k)) q l)
+      (alike d (several (suc m) k) s (λ f. line_on k d.at f m (rest d) e))
 
-  pub line_full : line_here (drop i t) ≡ true → (r : ℕ) → r ≡ 0 → verdict t (several r c f) i ≡ Full i
-  line_full e zero l =
-      let h = begins t i e in
-      let s : starts_line (get_or t i 0) ≡ true = sym (ap line_here (here t i h)) ∙ e in
-      rw (here t i h) (full_scan c f i (get_or t i 0) (drop (i + 1) t) s)
-  line_full e (suc r) l = absurd (omega arith)
+  -- one too many, or none
+  pub line_too_many : room ≤ n → line_here (rest d) ≡ true → Refuses c (several room k) (Full d.at)
+  line_too_many h e =
+      let q : room - n ≡ 0 = omega arith in
+      later c d (several room k) (several 0 k) (Full d.at) (subst (λ (x : ℕ). Leads c (several room k) d (several x k)) q l)
+      (refuses d (several 0 k) (Full d.at) (λ f. line_full k d.at f (rest d) e))
 
-  pub line_none : line_here (drop i t) ≡ false → (r : ℕ) → verdict t (several r c f) i ≡ verdict t (at f) i
-  line_none e r = none_scan r c f i (drop i t) e
+  pub lines_over : line_here (rest d) ≡ false → Leads c (several room k) d at
+  lines_over e =
+      further c d d (several room k) (several (room - n) k) at l
+      (alike d (several (room - n) k) at (λ f. line_none k d.at f (room - n) (rest d) e))

@@ -1,132 +1,88 @@
 -- Reading's verdict (format's `scan`) over the bytes of a value. Assumes nothing.
-use Prim.Native.Nat.{ℕ, zero, suc, ◌+◌, ◌-◌, ◌≤◌, ◌<◌}
-use mathlib.Core.Path.{◌≡◌, refl, ap, sym, ◌∙◌}
-use mathlib.Core.Bool.{Bool, true, false}
-use mathlib.Core.List.{List, [], ◌∷◌}
-use native.Mathlib.Numerals.{add-one}
-use native.Mathlib.Omega.{arith}
-use native.Mathlib.Decide.{dec_le}
-use lib.ListN.{length, drop, get_or, drop_of_length-le}
-use lib.Seq.{drop-cons}
-use borrow.Author.Tests.{lt-ltb, ne_eqb}
+use Rattle.std.proofs.Common.{ℕ, zero, suc, ◌+◌, ◌≡◌, refl, ap, sym, ◌∙◌, Bool, true, false, cond, List, [], ◌∷◌, drop, arith, add-zero, Err}
+use Rattle.std.proofs.Math.Numerals.{one-add}
+use Rattle.std.proofs.lemmas.Bool.{false≢true}
+use Rattle.std.proofs.lemmas.Bool.Decides.{nat_tests}
+use borrow.Author.Tests.{eqb-true, ne_eqb, lt-ltb}
 use Rattle.format.specs.Bytes.{lf, cr, comma, minus, is_digit, is_lead, is_digit_lem}
-use Rattle.format.specs.Machine.{Item, Part, fresh, signed, nought, digits, State, stuck, value, is_stuck, ends, in_value, step}
+use Rattle.format.specs.Machine.{Item, Part, fresh, signed, nought, digits, stuck, value, ends, in_value, step}
 use Rattle.format.specs.Reading.{scan}
-use Rattle.format.specs.declared.Scanned.TheVariants.{Faulty}
-use Rattle.monthfile.specs.Passing.{verdict}
-
--- the text at a place inside it, and at its end
-pub here : (t : List ℕ) (i : ℕ) → i < length t → drop i t ≡ get_or t i 0 ∷ drop (i + 1) t
-here t i h = rw add-one (drop-cons t i 0 h)
-
--- one byte in a value
-module _ (p : Part) (c : ℕ) (f : List Item) (i b : ℕ) (u : List ℕ) where
-  pub value_on : (s : State) → in_value p c f b ≡ s → is_stuck s ≡ false → scan (value p c f) i (b ∷ u) ≡ scan s (i + 1) u
-  unfolding scan step
-  value_on s e n = rw (e, n)
-
-  pub value_stuck : in_value p c f b ≡ stuck → scan (value p c f) i (b ∷ u) ≡ Faulty i
-  unfolding scan step
-  value_stuck e = rw e
-
-pub value_end : (p : Part) (c : ℕ) (f : List Item) (i : ℕ) → scan (value p c f) i [] ≡ Faulty i
-unfolding scan
-value_end p c f i = refl
+use Rattle.format.specs.declared.Fault.TheVariants.{Faulty}
+use Rattle.monthfile.specs.Cursor.{byte_here, lead_here, digits_here}
 
 -- two parts that take the byte alike
-value_like : (p q : Part) (c : ℕ) (f : List Item) (i b : ℕ) (u : List ℕ) → in_value p c f b ≡ in_value q c f b
-    → scan (value p c f) i (b ∷ u) ≡ scan (value q c f) i (b ∷ u)
+like : (p q : Part) (k i b : ℕ) (f : List Item) (u : List ℕ) → in_value p k f b ≡ in_value q k f b
+    → scan (value p k f) i (b ∷ u) ≡ scan (value q k f) i (b ∷ u)
 unfolding scan step
-value_like p q c f i b u e = rw e
+like p q k i b f u e = rw e
 
 -- a digit ends no value
-digit_ends : (c : ℕ) (f : List Item) (b : ℕ) → is_digit b ≡ true → ends c f b ≡ stuck
+digit_ends : (k : ℕ) (f : List Item) (b : ℕ) → is_digit b ≡ true → ends k f b ≡ stuck
 digit_ends zero f b e =
     let d = (is_digit_lem b).0 e in
     let n = ne_eqb b lf (λ x. omega (arith, d.low)) in
     let c = ne_eqb b cr (λ x. omega (arith, d.low)) in
     rw (n, c)
-digit_ends (suc c) f b e = let d = (is_digit_lem b).0 e in let n = ne_eqb b comma (λ x. omega (arith, d.low)) in rw n
+digit_ends (suc k) f b e = let d = (is_digit_lem b).0 e in let n = ne_eqb b comma (λ x. omega (arith, d.low)) in rw n
 
-no_more : (c : ℕ) (f : List Item) (b : ℕ) (q : Bool) → is_digit b ≡ q → in_value (digits 18) c f b ≡ in_value nought c f b
+full : (k : ℕ) (f : List Item) (b : ℕ) (q : Bool) → is_digit b ≡ q → in_value (digits 18) k f b ≡ in_value nought k f b
 unfolding in_value
-no_more c f b true e = rw e (sym (digit_ends c f b e))
-no_more c f b false e = rw e
+full k f b true e = rw e (sym (digit_ends k f b e))
+full k f b false e = rw e
 
-module _ (t : List ℕ) (c : ℕ) (f : List Item) (i : ℕ) where
-  pub text_end : (p : Part) → length t ≤ i → verdict t (value p c f) i ≡ Faulty i
-  text_end p h = rw (drop_of_length-le t h) (value_end p c f i)
+-- after n digits m more at most: where they end the value is as after a lone 0
+digits_on : (k : ℕ) (f : List Item) (m n i : ℕ) (u : List ℕ) → n + m ≡ 18
+    → scan (value (digits n) k f) i u ≡ scan (value nought k f) (i + digits_here m u) (drop (digits_here m u) u)
+unfolding scan step in_value
+digits_on k f zero n i [] e = rw add-zero
+digits_on k f zero n i (b ∷ u) e =
+    let h : n ≡ 18 = omega arith in
+    rw (h, add-zero) (like (digits 18) nought k i b f u (full k f b (is_digit b) refl))
+digits_on k f (suc m) n i [] e = rw add-zero
+digits_on k f (suc m) n i (b ∷ u) e = by (is_digit b) refl (λ h. digits_on k f m (n + 1) (i + 1) u h)
+  where
+    j : ℕ
+    j = digits_here m u
 
-  module _ (h : i < length t) where
-    -- a byte that the value takes, or not
-    pub byte_on : (p : Part) (s : State) → in_value p c f (get_or t i 0) ≡ s → is_stuck s ≡ false → verdict t (value p c f) i ≡ verdict t s (i + 1)
-    byte_on p s e n = rw (here t i h) (value_on p c f i (get_or t i 0) (drop (i + 1) t) s e n)
+    by : (q : Bool) → is_digit b ≡ q
+        → (n + 1 + m ≡ 18 → scan (value (digits (n + 1)) k f) (i + 1) u ≡ scan (value nought k f) (i + 1 + j) (drop j u))
+        → scan (value (digits n) k f) i (b ∷ u) ≡ scan (value nought k f) (i + cond q (1 + j) 0) (drop (cond q (1 + j) 0) (b ∷ u))
+    by true q g =
+        let l = lt-ltb n 18 (omega arith) in
+        let c : i + 1 + j ≡ i + (1 + j) = omega arith in
+        let d : drop j u ≡ drop (1 + j) (b ∷ u) = rw one-add refl in
+        rw (q, l) (g (omega arith) ∙ ap (λ (x : ℕ). scan (value nought k f) x (drop j u)) c ∙ ap (scan (value nought k f) (i + (1 + j))) d)
+    by false q g = rw (q, add-zero)
 
-    pub byte_stuck : (p : Part) → in_value p c f (get_or t i 0) ≡ stuck → verdict t (value p c f) i ≡ Faulty i
-    byte_stuck p e = rw (here t i h) (value_stuck p c f i (get_or t i 0) (drop (i + 1) t) e)
+lead_digit : (b : ℕ) → is_lead b ≡ true → is_digit b ≡ true
+lead_digit b e = grind (arith, nat_tests)
 
-    pub byte_like : (p q : Part) → in_value p c f (get_or t i 0) ≡ in_value q c f (get_or t i 0) → verdict t (value p c f) i ≡ verdict t (value q c f) i
-    byte_like p q e = rw (here t i h) (value_like p q c f i (get_or t i 0) (drop (i + 1) t) e)
+module _ (k i : ℕ) (f : List Item) where
+  -- the first byte of a value: a 0 by itself, a sign, or none
+  pub nought_on : (u : List ℕ) → byte_here 48 u ≡ true → scan (value fresh k f) i u ≡ scan (value nought k f) (i + 1) (drop 1 u)
+  unfolding scan step in_value
+  nought_on [] e = absurd (false≢true e)
+  nought_on (b ∷ u) e = rw (eqb-true b 48 e)
 
-    pub digit_on : (n : ℕ) → n < 18 → is_digit (get_or t i 0) ≡ true → verdict t (value (digits n) c f) i ≡ verdict t (value (digits (n + 1)) c f) (i + 1)
-    unfolding in_value
-    digit_on n k e = let l = lt-ltb n 18 k in byte_on (digits n) (value (digits (n + 1)) c f) (rw (e, l)) refl
+  pub sign_on : (u : List ℕ) (q : Bool) → q ≡ byte_here minus u → byte_here 48 u ≡ false
+      → scan (value fresh k f) i u ≡ scan (value signed k f) (i + cond q 1 0) (drop (cond q 1 0) u)
+  unfolding scan step in_value
+  sign_on [] q h e = rw (h, add-zero)
+  sign_on (b ∷ u) true h e = rw (sym h)
+  sign_on (b ∷ u) false h e = rw (sym h, e, add-zero)
 
-    pub digits_over : (n : ℕ) → is_digit (get_or t i 0) ≡ false → verdict t (value (digits n) c f) i ≡ verdict t (value nought c f) i
-    unfolding in_value
-    digits_over n e = byte_like (digits n) nought (rw e)
+  -- the digits, of which the first is not 0
+  pub lead_on : (u : List ℕ) → lead_here u ≡ true → scan (value signed k f) i u ≡ scan (value nought k f) (i + digits_here 18 u) (drop (digits_here 18 u) u)
+  unfolding scan step in_value
+  lead_on [] e = absurd (false≢true e)
+  lead_on (b ∷ u) e =
+      let j = digits_here 17 u in
+      let c : i + 1 + j ≡ i + (1 + j) = omega arith in
+      let d : drop j u ≡ drop (1 + j) (b ∷ u) = rw one-add refl in
+      let g = digits_on k f 17 1 (i + 1) u (omega arith) in
+      rw (e, lead_digit b e) (g ∙ ap (λ (x : ℕ). scan (value nought k f) x (drop j u)) c ∙ ap (scan (value nought k f) (i + (1 + j))) d)
 
-    pub digits_full : verdict t (value (digits 18) c f) i ≡ verdict t (value nought c f) i
-    digits_full = byte_like (digits 18) nought (no_more c f (get_or t i 0) (is_digit (get_or t i 0)) refl)
-
-    -- the first digit
-    pub lead_on : is_lead (get_or t i 0) ≡ true → verdict t (value signed c f) i ≡ verdict t (value (digits 1) c f) (i + 1)
-    unfolding in_value
-    lead_on e = byte_on signed (value (digits 1) c f) (rw e) refl
-
-    pub lead_stuck : is_lead (get_or t i 0) ≡ false → verdict t (value signed c f) i ≡ Faulty i
-    unfolding in_value
-    lead_stuck e = byte_stuck signed (rw e)
-
-    -- the first byte of a value
-    pub nought_on : get_or t i 0 ≡ 48 → verdict t (value fresh c f) i ≡ verdict t (value nought c f) (i + 1)
-    unfolding in_value
-    nought_on e = byte_on fresh (value nought c f) (rw e) refl
-
-    pub minus_on : get_or t i 0 ≡ minus → verdict t (value fresh c f) i ≡ verdict t (value signed c f) (i + 1)
-    unfolding in_value
-    minus_on e = byte_on fresh (value signed c f) (rw e) refl
-
-    pub plain_like : (get_or t i 0 ≡ 48 → ⊥) → (get_or t i 0 ≡ minus → ⊥) → verdict t (value fresh c f) i ≡ verdict t (value signed c f) i
-    unfolding in_value
-    plain_like n m = let x = ne_eqb (get_or t i 0) 48 n in let y = ne_eqb (get_or t i 0) minus m in byte_like fresh signed (rw (y, x))
-
-  -- the digits end at 18, or with the text
-  pub digits_done : (n : ℕ) → (i < length t → n ≡ 18) → verdict t (value (digits n) c f) i ≡ verdict t (value nought c f) i
-  digits_done n e = by (dec_le (length t) i)
-    where
-      by : Dec (length t ≤ i) → verdict t (value (digits n) c f) i ≡ verdict t (value nought c f) i
-      by (yes h) = text_end (digits n) h ∙ sym (text_end nought h)
-      by (no h) =
-          let l : i < length t = omega (arith, h) in
-          ap (λ (k : ℕ). verdict t (value (digits k) c f) i) (e l) ∙ digits_full l
-
--- after the first digit, at i, all bytes up to place j were digits
-abbrev pub Behind : List ℕ → ℕ → ℕ → Type 0
-Behind t i j = (c : ℕ) (f : List Item) → verdict t (value (digits 1) c f) i ≡ verdict t (value (digits (j - i + 1)) c f) j
-
-pub behind_none : (t : List ℕ) (i : ℕ) → Behind t i i
-behind_none t i c f = let e : 1 ≡ i - i + 1 = omega arith in ap (λ (n : ℕ). verdict t (value (digits n) c f) i) e
-
-module _ (t : List ℕ) (i j : ℕ) (b : Behind t i j) where
-  pub behind_more : i ≤ j → j < i + 17 → j < length t → is_digit (get_or t j 0) ≡ true → Behind t i (j + 1)
-  behind_more l m h e c f =
-      let n : j - i + 1 + 1 ≡ j + 1 - i + 1 = omega arith in
-      b c f ∙ digit_on t c f j h (j - i + 1) (omega arith) e ∙ ap (λ (n : ℕ). verdict t (value (digits n) c f) (j + 1)) n
-
-  pub behind_over : j < length t → is_digit (get_or t j 0) ≡ false → (c : ℕ) (f : List Item)
-      → verdict t (value (digits 1) c f) i ≡ verdict t (value nought c f) j
-  behind_over h e c f = b c f ∙ digits_over t c f j h (j - i + 1) e
-
-  pub behind_all : (j < length t → j ≡ i + 17) → (c : ℕ) (f : List Item) → verdict t (value (digits 1) c f) i ≡ verdict t (value nought c f) j
-  behind_all e c f = b c f ∙ digits_done t c f j (j - i + 1) (λ h. let x = e h in omega arith)
+  pub no_lead : (u : List ℕ) → lead_here u ≡ false → scan (value signed k f) i u ≡ Err (Faulty i)
+  unfolding scan step in_value
+  no_lead [] e = refl
+  no_lead (b ∷ u) e = rw e

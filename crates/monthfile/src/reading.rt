@@ -1,18 +1,9 @@
-// One file read (paper 01, "The month file"): first judged whole, against the room in the slices lent for its lines, and only then
-// written. `read_lines` reads the points as lines of values; points.rt reads them as records.
-ghost use Rattle.std.specs.Prelude.{◌≡◌, ◌≤◌, length};
-ghost use Rattle.monthfile.specs.Reads.{Reads, as_lines, next_of};
-ghost use Rattle.monthfile.specs.Parts.{MonthAt, Prepared, Starts, answer_of};
+// The values of a file read from its text (paper 01, "The month file"), whatever text it is; the verdict is the scanner's.
+use crate::cursor::Cursor;
+use records::Line;
+use rules::MonthLine;
 
-use crate::line::line_here;
-use crate::names::{AGENTS, MONTH, POINTS, USERS};
-use crate::rows::{agents_at, points_at, users_at};
-use crate::values::{line_at, past_names};
-use format::Scanned;
-use rules::{AgentLine, MonthLine, PointLine, UserLine};
-
-// What reading answers: the month line, how many lines there are of each kind and the position after the file, or paper 01's number
-// and place.
+// What an accepted reading answers: the month line, how many lines there are of each kind, and the position after the file.
 #[derive(Clone, Copy)]
 pub struct Header {
     pub line: MonthLine,
@@ -22,151 +13,82 @@ pub struct Header {
     pub next: usize,
 }
 
-#[derive(Clone, Copy)]
-pub enum Reading {
-    Accepted(Header),
-    Refused(u64, usize),
-}
+impl Cursor<'_> {
+    ghost use Rattle.std.specs.Prelude.{◌≡◌, ◌+◌, ◌<◌, ◌^◌, length, drop, pos};
+    ghost use Rattle.format.specs.Values.{read_digits, read_value, read_line, read_lines, past_end};
+    ghost use Rattle.monthfile.specs.Cursor.{rest};
+    ghost use Rattle.monthfile.specs.At.{GotAt, Filled};
 
-// The month line, and the place after it.
-#[derive(Clone, Copy)]
-struct MonthRead {
-    pub line: MonthLine,
-    pub next: usize,
-}
-
-fn month_at(text: &[u8], at: usize) -> MonthRead
-    requires { at ≤ length text.now }
-    ensures { MonthAt text.now at result }
-{
-    if line_here(text, at) {
-        let mut row = [0i64; 2];
-        let next = line_at(text, at, &mut row);
-        let line = MonthLine {
-            month: row[0],
-            ons: row[1],
-        };
-        return MonthRead { line, next };
-    }
-    let line = MonthLine { month: 0, ons: 0 };
-    MonthRead { line, next: at }
-}
-
-// A file judged and, where it is accepted, read up to its points: from `at` on, `room` of them at most.
-#[derive(Drop)]
-pub(crate) struct Started {
-    pub verdict: Scanned,
-    pub line: MonthLine,
-    pub agents: usize,
-    pub users: usize,
-    pub at: usize,
-    pub room: usize,
-}
-
-fn up_to_points(
-    text: &[u8],
-    from: usize,
-    next: usize,
-    agents: &mut [AgentLine],
-    users: &mut [UserLine],
-    room: usize,
-) -> Started
-    requires { from ≤ length text.now }
-    ensures { (result.verdict ≡ Scanned.Whole next)
-        × Prepared text.now from agents.old users.old room agents.new users.new result (Scanned.Whole next) }
-{
-    let m = month_at(text, past_names(text, from, &MONTH));
-    let a = agents_at(text, past_names(text, m.next, &AGENTS), agents);
-    let u = users_at(text, past_names(text, a.next, &USERS), users);
-    let line = m.line;
-    Started {
-        verdict: Scanned::Whole(next),
-        line,
-        agents: a.count,
-        users: u.count,
-        at: past_names(text, u.next, &POINTS),
-        room,
-    }
-}
-
-fn nothing(verdict: Scanned) -> Started
-    ensures { (result.verdict ≡ verdict) × ((result.at ≡ 0) × (result.room ≡ 0)) }
-{
-    let line = MonthLine { month: 0, ons: 0 };
-    Started {
-        verdict,
-        line,
-        agents: 0,
-        users: 0,
-        at: 0,
-        room: 0,
-    }
-}
-
-// Starts, and where it is accepted read up to its points.
-pub(crate) fn judged(
-    text: &[u8],
-    from: usize,
-    agents: &mut [AgentLine],
-    users: &mut [UserLine],
-    points: usize,
-) -> Started
-    ensures { Starts text.now from agents.old users.old points agents.new users.new result }
-{
-    let verdict = crate::scanner::scan(text, from, [agents.len(), users.len(), points]);
-    match verdict {
-        Scanned::Whole(n) => up_to_points(text, from, n, agents, users, points),
-        Scanned::Faulty(p) => nothing(Scanned::Faulty(p)),
-        Scanned::Full(p) => nothing(Scanned::Full(p)),
-    }
-}
-
-// The answer, once the points are counted.
-pub(crate) fn answer(b: Started, points: usize) -> Reading
-    ensures { result ≡ answer_of b points }
-{
-    let verdict = b.verdict;
-    match verdict {
-        Scanned::Whole(n) => {
-            let line = b.line;
-            Reading::Accepted(Header {
-                line,
-                agents: b.agents,
-                users: b.users,
-                points,
-                next: n,
-            })
+    // The number of the digits here, at most 18.
+    fn read_digits(&mut self) -> u64
+        ensures read { GotAt (read_digits 18 0 (rest self.old)) result self.new }
+        ensures small { result < 10 ^ 18 }
+    {
+        let mut number = 0;
+        for &digit in self.digits(18) {
+            number = number * 10 + u64::from(digit - b'0');
         }
-        Scanned::Faulty(p) => Reading::Refused(11, p),
-        Scanned::Full(p) => Reading::Refused(12, p),
+        number
     }
-}
 
-// Where the position goes.
-pub(crate) fn next_of(r: Reading, from: usize) -> usize
-    ensures { result ≡ next_of r from }
-{
-    match r {
-        Reading::Accepted(h) => h.next,
-        Reading::Refused(_, _) => from,
+    fn read_value(&mut self) -> i64
+        ensures { GotAt (read_value (rest self.old)) result self.new }
+    {
+        let negative = self.eat(b'-');
+        let number = self.read_digits() as i64;
+        if negative { -number } else { number }
     }
-}
 
-// Reading one file, its points as lines of values.
-pub fn read_lines(
-    text: &[u8],
-    from: usize,
-    agents: &mut [AgentLine],
-    users: &mut [UserLine],
-    points: &mut [PointLine],
-) -> Reading
-    ensures { Reads as_lines text.now from
-        agents.old users.old points.old
-        agents.new users.new points.new result }
-{
-    let b = judged(text, from, agents, users, points.len());
-    let at = b.at;
-    let room = b.room;
-    let p = points_at(text, at, &mut points[..room]);
-    answer(b, p.count)
+    // Past the end of a line, LF or CR LF.
+    fn skip_end(&mut self)
+        ensures { rest self.new ≡ past_end (rest self.old) }
+    {
+        self.eat(b'\r');
+        self.skip(1);
+    }
+
+    // A line of values, each with the comma or the line's end after it.
+    fn read_line<const N: usize>(&mut self) -> [i64; N]
+        requires { N < 2 ^ 60 }
+        ensures { GotAt (read_line N (rest self.old)) result self.new }
+    {
+        let mut values = [0; N];
+        for (i, value) in values.iter_mut().enumerate() {
+            *value = self.read_value();
+            if i + 1 < N {
+                self.skip(1);
+            } else {
+                self.skip_end();
+            }
+        }
+        values
+    }
+
+    // The lines of a block, at most as many as the slice takes; entries beyond them are left as they are. How many there are is answered.
+    fn read_lines<const N: usize, L: Line<N>>(&mut self, lines: &mut [L]) -> usize
+        requires { N < 2 ^ 60 }
+        ensures { Filled L.of (read_lines (length lines.old) N (rest self.old)) lines.old lines.new result self.new }
+    {
+        for (count, line) in lines.iter_mut().enumerate() {
+            if !self.line_here() {
+                return count;
+            }
+            *line = L::of(self.read_line());
+        }
+        lines.len()
+    }
+
+    // A block: past its names, and its lines.
+    pub(crate) fn read_block<const N: usize, L: Line<N>>(
+        &mut self,
+        names: &[u8],
+        lines: &mut [L],
+    ) -> usize
+        requires { N < 2 ^ 60 }
+        ensures { Filled L.of (read_lines (length lines.old) N (past_end (drop (length names.now) (rest self.old)))) lines.old lines.new result self.new }
+    {
+        self.skip(names.len());
+        self.skip_end();
+        self.read_lines(lines)
+    }
 }

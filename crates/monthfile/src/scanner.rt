@@ -1,115 +1,162 @@
 // One file of a text scanned (paper 01, "The month file", refusals 11 and 12): its blocks one after the other, each byte looked at once,
 // in its order.
-ghost use Rattle.std.specs.Prelude.{◌≡◌, ◌≤◌, min, [], length};
-ghost use Rattle.format.specs.Blocks.{one, up_to};
-ghost use Rattle.format.specs.Machine.{at, start};
+ghost use Rattle.std.specs.Prelude.{◌≡◌};
+ghost use Rattle.format.specs.Blocks.{slices};
 ghost use Rattle.format.specs.Reading.{scan_at};
-ghost use Rattle.monthfile.specs.Passing.{verdict, and_then, Passes, Continues, Within, at_names, at_block};
 
-use crate::line::{line, line_end, lines};
+use crate::cursor::Cursor;
 use crate::names::{AGENTS, MONTH, POINTS, USERS};
-use format::Scanned;
+use format::Fault;
 
-// How many lines the slices lent for them take: agents, users, points.
-type Slices = [usize; 3];
+// How many lines the slices lent for them take.
+#[derive(Clone, Copy)]
+pub(crate) struct Room {
+    pub agents: usize,
+    pub users: usize,
+    pub points: usize,
+}
 
-// A line of names, which must be these.
-fn names(text: &[u8], i: usize, expected: &[u8]) -> Scanned
-    requires { i ≤ length text.now }
-    ensures { Passes text.now i (at_names expected.now) at result }
-{
-    let mut here = i;
-    let mut k = 0;
-    while k < expected.len() {
-        if text.len() <= here {
-            return Scanned::Faulty(here);
+impl Cursor<'_> {
+    ghost use Rattle.std.specs.Prelude.{◌≡◌, ℕ, []};
+    ghost use Rattle.format.specs.Blocks.{up_to, slices};
+    ghost use Rattle.format.specs.Machine.{fresh, signed, nought, at, value as in_value, start};
+    ghost use Rattle.format.specs.Values.{line_here};
+    ghost use Rattle.monthfile.specs.Cursor.{rest, lead_here, file_ends};
+    ghost use Rattle.monthfile.specs.Passing.{Passes, Takes, at_end, at_names, at_block, several};
+
+    // This byte, which must be here.
+    fn scan_byte(&mut self, wanted: u8) -> Result<(), Fault>
+        ensures { Takes wanted self.old self.new result }
+    {
+        if self.eat(wanted) {
+            return Ok(());
         }
-        if text[here] != expected[k] {
-            return Scanned::Faulty(here);
+        Err(Fault::Faulty(self.at))
+    }
+
+    // Whether a digit but 0 is here.
+    fn lead_here(&self) -> bool
+        ensures { result ≡ lead_here (rest self.now) }
+    {
+        matches!(self.byte(), Some(b'1'..=b'9'))
+    }
+
+    // A value but for its sign and a lone 0: 1 to 18 digits, the first of them not 0.
+    #[inline(always)]
+    fn scan_size(&mut self) -> Result<(), Fault>
+        ensures { (k : ℕ) → Passes self.old (in_value signed k) self.new (in_value nought k) result }
+    {
+        if !self.lead_here() {
+            return Err(Fault::Faulty(self.at));
         }
-        here += 1;
-        k += 1;
+        self.digits(18);
+        Ok(())
     }
-    line_end(text, here)
-}
 
-// The month's block: its names and one line.
-fn month(text: &[u8], i: usize, expected: &[u8]) -> Scanned
-    requires { i ≤ length text.now }
-    ensures { Passes text.now i (at_block expected.now one 1) at result }
-{
-    match names(text, i, expected) {
-        Scanned::Whole(n) => line(text, n, 1),
-        Scanned::Faulty(p) => Scanned::Faulty(p),
-        Scanned::Full(p) => Scanned::Full(p),
+    // A value; no 0 comes first but in 0 itself, which has no sign.
+    #[inline(always)]
+    fn scan_value(&mut self) -> Result<(), Fault>
+        ensures { (k : ℕ) → Passes self.old (in_value fresh k) self.new (in_value nought k) result }
+    {
+        if self.eat(b'0') {
+            return Ok(());
+        }
+        self.eat(b'-');
+        self.scan_size()
     }
-}
 
-// A further block: its names, and lines with so many commas, for which there is so much room.
-fn block(text: &[u8], i: usize, expected: &[u8], commas: u16, room: usize) -> Scanned
-    requires { i ≤ length text.now }
-    ensures { Passes text.now i (at_block expected.now (up_to room) commas) at result }
-{
-    match names(text, i, expected) {
-        Scanned::Whole(n) => lines(text, n, commas, room),
-        Scanned::Faulty(p) => Scanned::Faulty(p),
-        Scanned::Full(p) => Scanned::Full(p),
+    // The end of a line, of names or of values: LF, or CR and LF.
+    fn scan_end(&mut self) -> Result<(), Fault>
+        ensures { Passes self.old at_end self.new at result }
+    {
+        self.eat(b'\r');
+        self.scan_byte(b'\n')
     }
-}
 
-// A block where the ones before it ended, if they did.
-fn next_block(text: &[u8], passed: Scanned, expected: &[u8], commas: u16, room: usize) -> Scanned
-    requires { Within text.now 0 passed }
-    ensures { Continues text.now passed (at_block expected.now (up_to room) commas) at result }
-{
-    match passed {
-        Scanned::Whole(n) => block(text, n, expected, commas, room),
-        Scanned::Faulty(p) => Scanned::Faulty(p),
-        Scanned::Full(p) => Scanned::Full(p),
+    // A line of values with so many commas.
+    #[inline(always)]
+    fn scan_line(&mut self, commas: usize) -> Result<(), Fault>
+        ensures { Passes self.old (in_value fresh commas) self.new at result }
+    {
+        for _ in 0..commas {
+            self.scan_value()?;
+            self.scan_byte(b',')?;
+        }
+        self.scan_value()?;
+        self.scan_end()
     }
-}
 
-// After the last block a file ends with the text or before an `m`.
-fn file_end(text: &[u8], passed: Scanned) -> Scanned
-    requires { Within text.now 0 passed }
-    ensures { (result ≡ and_then passed (λ n. verdict text.now (at []) n)) × Within text.now 0 result }
-{
-    match passed {
-        Scanned::Whole(n) => {
-            if text.len() <= n {
-                return Scanned::Whole(n);
+    // Whether a line of values begins here.
+    pub(crate) fn line_here(&self) -> bool
+        ensures { result ≡ line_here (rest self.now) }
+    {
+        matches!(self.byte(), Some(b'-' | b'0'..=b'9'))
+    }
+
+    // Lines of a block, as many as there are; Full where one begins that there is no room for.
+    #[inline(always)]
+    fn scan_lines(&mut self, commas: usize, room: usize) -> Result<(), Fault>
+        ensures { Passes self.old (several room commas) self.new at result }
+    {
+        for _ in 0..room {
+            if !self.line_here() {
+                return Ok(());
             }
-            if text[n] == b'm' {
-                return Scanned::Whole(n);
-            }
-            Scanned::Faulty(n)
+            self.scan_line(commas)?;
         }
-        Scanned::Faulty(p) => Scanned::Faulty(p),
-        Scanned::Full(p) => Scanned::Full(p),
+        if self.line_here() {
+            return Err(Fault::Full(self.at));
+        }
+        Ok(())
+    }
+
+    // A line of names, which must be these.
+    #[inline(always)]
+    fn scan_names(&mut self, names: &[u8]) -> Result<(), Fault>
+        ensures { Passes self.old (at_names names.now) self.new at result }
+    {
+        for &byte in names {
+            self.scan_byte(byte)?;
+        }
+        self.scan_end()
+    }
+
+    // A block: its names, and lines with so many commas, for which there is so much room.
+    #[inline(always)]
+    fn scan_block(&mut self, names: &[u8], commas: usize, room: usize) -> Result<(), Fault>
+        ensures { Passes self.old (at_block names.now (up_to room) commas) self.new at result }
+    {
+        self.scan_names(names)?;
+        self.scan_lines(commas, room)
+    }
+
+    // The blocks of a file, one after the other.
+    fn scan_blocks(&mut self, room: Room) -> Result<(), Fault>
+        ensures { Passes self.old (λ f. start (slices room.agents room.users room.points)) self.new (λ f. at []) result }
+    {
+        self.scan_names(&MONTH)?;
+        self.scan_line(1)?;
+        self.scan_block(&AGENTS, 6, room.agents)?;
+        self.scan_block(&USERS, 3, room.users)?;
+        self.scan_block(&POINTS, 8, room.points)
+    }
+
+    // Whether a file may end here: with the text, or before an `m`.
+    fn file_ends(&self) -> bool
+        ensures { result ≡ file_ends (rest self.now) }
+    {
+        matches!(self.byte(), None | Some(b'm'))
     }
 }
 
-// The blocks of a file, one after the other.
-fn file(text: &[u8], i: usize, slices: Slices) -> Scanned
-    requires { i ≤ length text.now }
-    ensures { (result ≡ verdict text.now (start slices) i) × Within text.now 0 result }
+// The file at a position; the place after it.
+pub(crate) fn scan(text: &[u8], from: usize, room: Room) -> Result<usize, Fault>
+    ensures { result ≡ scan_at (slices room.agents room.users room.points) text.now from }
 {
-    let m = month(text, i, &MONTH);
-    let a = next_block(text, m, &AGENTS, 6, slices[0]);
-    let u = next_block(text, a, &USERS, 3, slices[1]);
-    let p = next_block(text, u, &POINTS, 8, slices[2]);
-    file_end(text, p)
-}
-
-fn smaller(a: usize, b: usize) -> usize
-    ensures { (result ≡ min a b) × (result ≤ b) }
-{
-    if a < b { a } else { b }
-}
-
-// The file at a position; a position past the end counts as the end.
-pub(crate) fn scan(text: &[u8], from: usize, slices: Slices) -> Scanned
-    ensures { (result ≡ scan_at slices text.now from) × Within text.now 0 result }
-{
-    file(text, smaller(from, text.len()), slices)
+    let mut cursor = Cursor::new(text, from);
+    cursor.scan_blocks(room)?;
+    if !cursor.file_ends() {
+        return Err(Fault::Faulty(cursor.at));
+    }
+    Ok(cursor.at)
 }

@@ -1,11 +1,9 @@
--- What the tests tell: the month that `%` gives; a user's number as an index from 0, and the line that stands there; a number that is no
--- kind's.
+-- What the tests tell: the month that `%` gives, the line of a user's number, and a number that is no kind's.
 use Prim.Native.Nat.{ℕ, zero, suc, ◌<◌, ◌≤◌}
 use mathlib.Core.Path.{◌≡◌, refl, sym, ap, ◌∙◌}
 use mathlib.Core.Bool.{true, false, true≢false}
 use mathlib.Core.List.{List, []}
-use native.Mathlib.Decide.{dec_le}
-use lib.IntN.{ℤ, pos, negsuc, nat_abs, ◌-ℤ◌}
+use lib.IntN.{ℤ, pos, negsuc, ◌-ℤ◌}
 use lib.ListN.{length, get_or, get_or-eq_default}
 use lib.Signed.{rem_z, ◌≤ℤ◌}
 use Rattle.std.specs.Prelude.{Option, Some, None, MatchOption}
@@ -13,7 +11,7 @@ use Rattle.std.specs.Borrow.{Bor}
 use Rattle.std.proofs.Common.{arith}
 use Rattle.std.proofs.lemmas.Int.{ints}
 use Rattle.std.specs.List.{HoldsAt}
-use Rattle.ints.specs.Bridge.{abs_is, za, sub#, one#}
+use Rattle.ints.specs.Bridge.{za, sub#}
 use Rattle.ints.specs.Range.{outside, within_false, eq_z_not}
 use Rattle.ints.specs.Words.{rem_floor}
 use Rattle.rules.specs.declared.Point.{Point}
@@ -22,28 +20,21 @@ use Rattle.rules.specs.Calendar.{month_of_year}
 use Rattle.rules.specs.Lines.{user_of, kind_of, unfit_point}
 use Rattle.rules.specs.Kinds.{NoKindAt}
 
+-- above 0 the remainder is mm
 pub mm : (m : ℤ) → pos 200001 ≤ℤ m → rem_z m (pos 100) ≡ month_of_year m
 unfolding month_of_year
 mm m h = let z : pos 0 ≤ℤ m = omega za in rem_floor m 100 z
 
-pub past : (n k : ℕ) → outside (pos 1) (pos n) (pos (suc k)) ≡ true → n ≤ k
-past n k e = go (dec_le n k)
-  where
-    go : Dec (n ≤ k) → n ≤ k
-    go (yes h) = h
-    go (no h) = absurd (true≢false (sym e ∙ within_false _ _ _ (record { above = omega za; below = omega za })))
-
-pub line_of : (k : ℕ) → nat_abs (pos (suc k) -ℤ pos 1) ≡ k
-line_of k = omega (za, sub# (pos (suc k)) (pos 1), abs_is (pos (suc k) -ℤ pos 1), one# (pos (suc k) -ℤ pos 1))
-
+-- no user, no kind
 pub no_kind : (users : List User) (user : ℤ) → outside (pos 1) (pos (length users)) user ≡ true → NoKindAt (kind_of users user)
 unfolding kind_of
 no_kind users (pos zero) e = unfold outside in refl
 no_kind users (pos (suc k)) e =
-    rw (kind_of, get_or-eq_default users (user_of []) (past (length users) k e)) (unfold outside in refl)
+    let past : length users ≤ k = unfold outside in grind (arith, ints) in
+    rw (kind_of, get_or-eq_default users (user_of []) past) (unfold outside in refl)
 no_kind users (negsuc k) e = unfold outside in refl
 
--- what is found at that index
+-- what is found at the index of a user, which is its number less 1
 pub found :
     (users : List User) (user : ℤ) (i : ℕ) (r : Option (Bor User))
     → pos i ≡ user -ℤ pos 1

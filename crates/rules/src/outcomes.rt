@@ -43,7 +43,7 @@ pub enum Refusal {
 
 impl Lent {
     // The place of refusal 2.
-    pub fn place(self) -> u64
+    fn place(self) -> u64
         ensures { result ≡ lent_place self }
     {
         match self {

@@ -70,7 +70,7 @@ fn range(runs: &[Vec<u64>], k: usize) -> (u64, u64) {
     (times().min().expect("a run"), times().max().expect("a run"))
 }
 
-/// The times of a run: of the scan with its sums in place, then of each month.
+/// The times of a run: of the scan, then of each month.
 fn times(path: &str) -> Vec<u64> {
     let text = std::fs::read_to_string(path).expect("the times of a run");
     text.lines().map(|line| line.parse().expect("nanoseconds")).collect()
@@ -104,7 +104,7 @@ pub fn compare(folder: &str, count: usize) {
     let whole: u64 = (0..PARTS.len()).map(|k| range(&told, k).0).sum();
     println!("{:<28}{:>11}{:>11}{:>11}", "by part, ordinary amounts", "least", "most", "share");
     let ranges = PARTS.iter().enumerate().map(|(k, name)| (*name, range(&told, k)));
-    for (name, (least, most)) in ranges.chain([("scan, sums in place", range(&runs, 0))]) {
+    for (name, (least, most)) in ranges.chain([("scan", range(&runs, 0))]) {
         let share = 100.0 * least as f64 / whole as f64;
         println!("{:<28}{:>11.1}{:>11.1}{:>10.1}%", name, micros(least), micros(most), share);
     }

@@ -1,5 +1,5 @@
 -- Each group of refusals in turn; the held credits looked at are one for each user of the ledger.
-use Rattle.std.proofs.Common.{refl, sym, ap, ◌∙◌}
+use Rattle.std.proofs.Common.{sym, ap, ◌∙◌}
 use lib.Seq.{length-take-le}
 use Rattle.rules.specs.Answers.{verdict_of}
 use Rattle.closing.proofs.Judging.{stops, order, held_reach, sums_left, weighable, finds}

@@ -17,9 +17,9 @@ use Rattle.closing.proofs.judge.weighed.Goals.{After-weights_verdict, In_ok-weig
 weights_told : (c : After-weights_verdict) → verdict_of c.weights_verdict.result ≡ weights (lines_of c.args.month) c.args.sums.now
 weights_told c =
     let pv : SFits w64 c.pv_total-pv.result = search rules in
-    let pb : SFits w64 c.pb_total.result = search rules in
+    let pb : SFits w64 c.pb_total-pb.result = search rules in
     let uses : SFits w64 c.total.result = search rules in
-    rw (sym c.pb_total.ensures, sym c.pv_total-pv.ensures, sym c.total.ensures) (simp (to_z-of_z, pv, pb, uses) at c.weights_verdict.ensures)
+    rw (sym c.pb_total-pb.ensures, sym c.pv_total-pv.ensures, sym c.total.ensures) (simp (to_z-of_z, pv, pb, uses) at c.weights_verdict.ensures)
 
 -- what the amounts ask, and what they have come to
 weights_passed : (c : In_ok-weights_verdict) → weights (lines_of c.args.month) c.args.sums.now ≡ accepted
@@ -43,14 +43,14 @@ module _ (c : After-bill-bills) {st : State} (t : Weighable c.args.held.now (lin
       let f : SFits w64 c.bill-bills.result.total = search rules in
       ap debit_test (to_z-of_z f ∙ billed.total) ∙ debits_left t (weights_passed c.before.before)
 
+pub shared_ref_as_front-uses : goal.shared_ref_as_front-uses
+shared_ref_as_front-uses c = few_users c.requires.1
+
+pub pb_total-pb-requires : goal.pb_total-pb-requires
+pb_total-pb-requires c = agents_asked c.requires.1
+
 pub pv_total-pv-requires : goal.pv_total-pv-requires
 pv_total-pv-requires c = agents_asked c.requires.1
-
-pub pb_total-requires : goal.pb_total-requires
-pb_total-requires c = agents_asked c.requires.1
-
-pub shared_ref_as_front-total : goal.shared_ref_as_front-total
-shared_ref_as_front-total c = few_users c.requires.1
 
 pub total-requires : goal.total-requires
 total-requires c = total_asked c.requires.1

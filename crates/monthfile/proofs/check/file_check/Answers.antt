@@ -1,5 +1,5 @@
 -- Assumes nothing.
-use mathlib.Core.Path.{sym}
+use Rattle.std.proofs.Common.{sym}
 use Rattle.format.proofs.FileCheck.{check_over}
 use Rattle.monthfile.proofs.check.file_check.Goals as goal
 
