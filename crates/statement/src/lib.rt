@@ -21,14 +21,14 @@ use credits::payees::Payees;
 use rules::{Ledger, Lent, MonthLines, Refusal};
 
 // A point: use charge and overrun.
-#[derive(Clone, Copy)]
+#[derive(Clone, Copy, Default)]
 pub struct PointRow {
     pub use_charge: i64,
     pub overrun: i64,
 }
 
 // A user: EUST, its overruns, ret, VME, CPV, the credit held before, n, VD, the credit held after, direct charge.
-#[derive(Clone, Copy)]
+#[derive(Clone, Copy, Default)]
 pub struct UserRow {
     pub eust: i64,
     pub overruns: i64,
@@ -43,7 +43,7 @@ pub struct UserRow {
 }
 
 // A payee: VMST, VMPA, VMANT, ret, VC, and the shared part of VC.
-#[derive(Clone, Copy)]
+#[derive(Clone, Copy, Default)]
 pub struct PayeeRow {
     pub vmst: i64,
     pub vmpa: i64,
