@@ -1,5 +1,5 @@
 -- What reading the next file of the input comes to. Assumes nothing.
-use Rattle.std.specs.Prelude.{ℕ, ◌≤◌, ◌<◌, ◌≡◌, Result, IsOkAnd, length}
+use Rattle.std.specs.Prelude.{◌≤◌, ◌<◌, ◌≡◌, Result, IsOkAnd, length}
 use Rattle.format.specs.Grammar.{File}
 use Rattle.format.specs.Reading.{ReadingAnswer, accepted, refused}
 use Rattle.rules.specs.Verdict as Verdict
