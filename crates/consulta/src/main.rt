@@ -2,14 +2,6 @@
 // A failed read or write is told on standard error; the exit status is 0 all the same.
 #![tactic(auto)]
 
-use runs::Print;
-
 fn main(rt: HostRuntime) {
-    runs::run(
-        &rt,
-        Print::Amounts,
-        b"month,item,payee,user,point,cents\n",
-        b"consulta: standard input",
-        b"consulta: standard output",
-    );
+    runs::consulta(&rt);
 }

@@ -1,61 +1,83 @@
--- An accepted file lies in the slices that it was read into, and the next one begins further on. Assumes nothing.
-use Prim.Native.Nat.{ℕ, ◌≤◌, ◌<◌}
-use native.Mathlib.Omega.{arith}
-use mathlib.Core.Path.{◌≡◌, refl, sym, ◌∙◌}
+-- The next file, read into the programs' room: the month is its lines, and the reader goes on behind it. Assumes nothing.
+use Prim.Native.Nat.{ℕ}
+use mathlib.Core.Path.{◌≡◌, refl, ap, sym, ◌∙◌}
 use mathlib.Core.List.{List}
-use lib.IntN.{ℤ}
-use lib.ListN.{length}
+use native.Mathlib.Omega.{arith}
+use lib.ListN.{length, take, drop}
+use lib.Seq.{take-append_seam}
+use Rattle.std.specs.Prelude.{Ok, Err}
+use Rattle.std.proofs.lemmas.List.{length-map}
 use Rattle.format.specs.Blocks.{slices}
-use Rattle.format.specs.Grammar.{fits_slices}
-use Rattle.format.specs.Reading.{reading, ReadingAnswer, accepted, refused, Says}
-use Rattle.format.proofs.Answers.{reads}
+use Rattle.format.specs.Reading.{reading, ReadingAnswer, accepted, refused}
 use Rattle.format.proofs.FileByFile.{next_within}
-use Rattle.rules.specs.declared.Ledger.{Ledger}
-use Rattle.rules.specs.declared.Answer.{Answer}
-use Rattle.rules.specs.declared.Answer.TheVariants as Answers
-use Rattle.monthfile.specs.Reads.{header, answered}
+use Rattle.rules.specs.declared.Agent.{Agent}
+use Rattle.rules.specs.declared.Point.{Point}
+use Rattle.rules.specs.declared.User.{User}
+use Rattle.rules.specs.declared.outcomes.Refusal.{Refusal}
+use Rattle.rules.specs.Lines.{Lines, lines_of, agent_of, user_of, point_of}
+use Rattle.monthfile.specs.Reads.{Gives, Reads, as_agents, as_users, as_points, header, month_line, over}
+use Rattle.monthfile.specs.declared.reader.Reader.{Reader}
 use Rattle.monthfile.specs.declared.reading.Header.{Header}
-use Rattle.monthfile.specs.declared.reading.Reading.{Reading}
-use Rattle.monthfile.specs.declared.reading.Reading.TheVariants.{Accepted, Refused}
-use Rattle.runs.specs.Runs.{Counted, begun_on, BegunBy, Begins, GoesTo, GoesOn}
-use Rattle.runs.specs.declared.files.Begun.{Begun}
-use Rattle.runs.specs.declared.files.Begun.TheVariants.{File}
-use Rattle.runs.specs.declared.files.Books.{Books}
-use Rattle.runs.specs.declared.files.Step.{Step}
-use Rattle.runs.specs.declared.files.Step.TheVariants.{Next, Over}
+use Rattle.runs.specs.declared.months.Month.{Month}
+use Rattle.runs.specs.declared.months.TheConstants.{AGENTS, USERS, POINTS}
+use Rattle.runs.specs.Runs.{Advances, lines_in, ReadsNext}
 
-module _ (a u p : ℕ) (t : List ℕ) (from : ℕ) (h : Header) where
-  counted : Accepted h ≡ answered (reading (slices a u p) t from) → Counted a u p from (length t) h
-  counted e = by (reading (slices a u p) t from) refl (reads (slices a u p) t from) e
+-- what was read stands in front
+front : {A : Type 0} (xs ys : List A) (n : ℕ) → n ≡ length xs → take n (over xs ys) ≡ xs
+front xs ys n e = rw e (take-append_seam xs (drop (length xs) ys))
+
+abbrev next_file : Reader → ReadingAnswer
+next_file r = reading (slices AGENTS USERS POINTS) r.text.now r.at
+
+module _ (before after : Reader) (text : after.text ≡ before.text) where
+  -- the next one begins further on
+  pub advances : (m : Month) → ReadsNext (next_file before) (Ok m) before after → Advances before after
+  advances m r = by (next_file before) refl r
     where
-      by : (y : ReadingAnswer) → reading (slices a u p) t from ≡ y → Says (slices a u p) t from y → Accepted h ≡ answered y → Counted a u p from (length t) h
-      by (accepted f next) q s e =
-          let k : h ≡ header f next = cc in
-          let few = ((fits_slices (slices a u p) f).0 s.fits).1 in
-          let on = next_within (slices a u p) t from next f q in
-          rw k (record { agents_in = few.0; users_in = few.1.0; points_in = few.1.1.0; further = on.0; within = on.1 })
-      by (refused n q) _ s e = cc
+      by : (x : ReadingAnswer) → next_file before ≡ x → ReadsNext x (Ok m) before after → Advances before after
+      by (accepted f next) q s =
+          let on = next_within (slices AGENTS USERS POINTS) before.text.now before.at next f q in
+          record { text = text; further = omega (arith, on.0, s.2); within = rw (text, s.2) on.1 }
+      by (refused n p) q s = cc
 
-module _ (t : List ℕ) (from : ℕ) (ags us ps ags' us' ps' : List (List ℤ)) (held held' : List ℤ) (books : Books) (b : Begun) where
-  -- a file that was begun is an accepted one
-  pub begun_counts :
-      Begins books t from ags us ps held ags' us' ps' held' b
-      → (h : Header) (l : Ledger)
-      → b ≡ File h l
-      → Counted (length ags) (length us) (length ps) from (length t) h
-  begun_counts x h l e = by x.reading refl x.begun
-    where
-      on : (k : Header) (g : Ledger) (a : Answer) → x.reading ≡ Accepted k → b ≡ begun_on k g a → Counted (length ags) (length us) (length ps) from (length t) h
-      on k g Answers.Accepted r q =
-          let i : h ≡ k = cc in
-          rw i (counted (length ags) (length us) (length ps) t from k (sym r ∙ x.reads.answer))
-      on k g (Answers.Refused n p) r q = cc
+  module _
+      (ags ags' : List Agent) (us us' : List User) (ps ps' : List Point)
+      (a : length ags ≡ AGENTS) (u : length us ≡ USERS) (p : length ps ≡ POINTS) where
+    on_month :
+        (x : ReadingAnswer) (h : Header)
+        → Gives x ags us ps ags' us' ps' (Ok h)
+        → after.at ≡ h.next
+        → (m : Month)
+        → lines_of m.lines ≡ record { line = h.line; agents = take h.agents ags'; users = take h.users us'; points = take h.points ps' }
+        → ReadsNext x (Ok m) before after
+    on_month (accepted f next) h g at m e =
+        let k : h ≡ header f next = cc in
+        let i : h.agents ≡ length (as_agents f) = ap (λ (h : Header). h.agents) k ∙ sym (length-map f.agents agent_of) in
+        let j : h.users ≡ length (as_users f) = ap (λ (h : Header). h.users) k ∙ sym (length-map f.users user_of) in
+        let n : h.points ≡ length (as_points f) = ap (λ (h : Header). h.points) k ∙ sym (length-map f.points point_of) in
+        let b : take h.agents ags' ≡ as_agents f = rw g.agents_are (front (as_agents f) ags h.agents i) in
+        let c : take h.users us' ≡ as_users f = rw g.users_are (front (as_users f) us h.users j) in
+        let d : take h.points ps' ≡ as_points f = rw g.points_are (front (as_points f) ps h.points n) in
+        let l : h.line ≡ month_line f = ap (λ (h : Header). h.line) k in
+        let front_lines : Lines = record { line = h.line; agents = take h.agents ags'; users = take h.users us'; points = take h.points ps' } in
+        let w : front_lines ≡ lines_in f = cc in
+        (e ∙ w, text, cc)
+    on_month (refused n q) h g at m e = cc
 
-      by : (r : Reading) → x.reading ≡ r → BegunBy books held r held' b → Counted (length ags) (length us) (length ps) from (length t) h
-      by (Accepted k) r q = on k q.0.ledger q.0.answer r q.1.1
-      by (Refused n p) r q = cc
+    -- an accepted reading is of the month that its slices begin with
+    pub next_month :
+        (h : Header)
+        → Reads before.text.now before.at ags us ps ags' us' ps' (Ok h)
+        → after.at ≡ h.next
+        → (m : Month)
+        → lines_of m.lines ≡ record { line = h.line; agents = take h.agents ags'; users = take h.users us'; points = take h.points ps' }
+        → ReadsNext (next_file before) (Ok m) before after
+    next_month h g = on_month (next_file before) h (rw (a, u, p) at g)
 
--- the run goes on after the file, which is further on
-pub goes_on : {from most next : ℕ} (s : Step) → GoesTo next s → from < next → next ≤ most → GoesOn from most s
-goes_on (Next n l) e i j = (omega arith, omega arith)
-goes_on Over e i j = tt
+    on_refused : (x : ReadingAnswer) (e : Refusal) → Gives x ags us ps ags' us' ps' (Err e) → after.at ≡ before.at → ReadsNext x (Err e) before after
+    on_refused (accepted f next) e g at = cc
+    on_refused (refused n q) e g at = (g.answer, text, at)
+
+    -- a refused one leaves the reader where it was
+    pub next_refused : (e : Refusal) → Reads before.text.now before.at ags us ps ags' us' ps' (Err e) → after.at ≡ before.at → ReadsNext (next_file before) (Err e) before after
+    next_refused e g = on_refused (next_file before) e (rw (a, u, p) at g)

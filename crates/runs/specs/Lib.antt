@@ -1,2 +1,2 @@
--- `Runs` is what the parts of a program tell each other. What is printed is tested and not proved.
+-- `Runs` is what reading the next file comes to. What is printed is tested and not proved.
 pub mod Runs

@@ -1,304 +1,188 @@
-// Every amount of a closed month: its points, its users, its payees with the balance, and its cells. Each function answers
-// whether all was written; `told` is what is said of a write that fails.
-ghost use Rattle.std.specs.Prelude.{◌+◌, ◌*◌, ◌≤◌, length};
+// The report of `consulta`: every amount of a closed month.
+ghost use Rattle.statement.specs.Statement.{States};
+ghost use Rattle.rules.specs.Lines.{lines_of};
 
-use crate::lines;
-use crate::rows::{Payee, row};
-use rules::{PointLine, columns};
-use statement::{PayeeRow, PointRow, UserRow, columns as stated};
-use std::io;
+use crate::books::Books;
+use crate::months::{AGENTS, Month, POINTS, USERS};
+use crate::payees::{Payee, each_cell};
+use crate::report::Report;
+use rules::{MonthLines, Refusal};
+use statement::{PayeeRow, PointRow, UserRow};
+use std::{fmt, io};
 
-fn points<R: io::Print + io::Eprint>(
-    rt: &R,
-    month: i64,
-    points: &[PointLine],
-    rows: &[PointRow],
-    told: &[u8],
-) -> bool
-    requires { length rows.now ≤ length points.now }
-{
-    let n = rows.len();
-    let mut i = 0;
-    while i < n {
-        let r = rows[i];
-        let line = points[i];
-        let user = lines::size(line[columns::POINT_USER]);
-        let point = i as u64 + 1;
-        if !row(
-            rt,
+pub(crate) struct Amounts;
+
+impl Report for Amounts {
+    const PROGRAM: &'static str = "consulta";
+
+    const COLUMNS: &'static str = "month,item,payee,user,point,cents";
+
+    fn month<R: io::Print>(rt: &R, books: &mut Books, month: Month<'_>) -> io::Result<()> {
+        let mut rows = Rows::new();
+        match rows.state_and_close(books, month.lines) {
+            Ok(balance) => Printer { rt, month }.amounts(&rows, balance, books),
+            Err(refusal) => rt.println(refusal),
+        }
+    }
+}
+
+// A row for each point, each user and each payee, ONS last.
+#[derive(Drop)]
+struct Rows {
+    points: [PointRow; POINTS],
+    users: [UserRow; USERS],
+    payees: [PayeeRow; PAYEES],
+}
+
+const PAYEES: usize = AGENTS + 1;
+
+impl Rows {
+    fn new() -> Rows {
+        Rows {
+            points: [PointRow::default(); POINTS],
+            users: [UserRow::default(); USERS],
+            payees: [PayeeRow::default(); PAYEES],
+        }
+    }
+
+    // States a month with the credits that are held: its balance.
+    fn state(&mut self, books: &Books, month: MonthLines<'_>) -> Result<i64, Refusal>
+        ensures { States books.now.ledger books.now.held (lines_of month.entry)
+            self.old.points self.old.users self.old.payees result
+            self.new.points self.new.users self.new.payees }
+    {
+        statement::state(
+            books.ledger,
+            &books.held,
             month,
-            b"use",
-            Payee::Nobody,
-            user,
-            point,
-            r[stated::USE_CHARGE],
-            told,
-        ) {
-            return false;
+            &mut self.points,
+            &mut self.users,
+            &mut self.payees,
+        )
+    }
+
+    // States a month with the credits held before it, and closes it.
+    fn state_and_close(
+        &mut self,
+        books: &mut Books,
+        month: MonthLines<'_>,
+    ) -> Result<i64, Refusal> {
+        let balance = self.state(books, month)?;
+        books.close(month)?;
+        Ok(balance)
+    }
+}
+
+// Whose an amount is.
+#[derive(Clone, Copy)]
+enum Of {
+    // of this user, and the number of the point
+    Point(i64, usize),
+    User(usize),
+    Payee(Payee),
+    Cell(Payee, usize),
+    Month,
+}
+
+// The columns payee, user and point, each empty where it does not apply.
+impl fmt::Display for Of {
+    fn fmt<W: fmt::Write>(&self, f: &mut fmt::Formatter<W>) -> fmt::Result {
+        match self {
+            Of::Point(user, point) => write!(f, ",{user},{point}"),
+            Of::User(user) => write!(f, ",{user},"),
+            Of::Payee(payee) => write!(f, "{payee},,"),
+            Of::Cell(payee, user) => write!(f, "{payee},{user},"),
+            Of::Month => write!(f, ",,"),
         }
-        if !row(
-            rt,
-            month,
-            b"overrun",
-            Payee::Nobody,
-            user,
-            point,
-            r[stated::OVERRUN],
-            told,
-        ) {
-            return false;
+    }
+}
+
+#[derive(Drop)]
+struct Printer<'a, R> {
+    rt: &'a R,
+    month: Month<'a>,
+}
+
+impl<R: io::Print> Printer<'_, R> {
+    fn row(&self, item: &str, of: Of, cents: i64) -> io::Result<()> {
+        let month = self.month.lines.line.month;
+        println!(self.rt; "{month},{item},{of},{cents}")
+    }
+
+    fn rows(&self, of: Of, amounts: &[(&str, i64)]) -> io::Result<()> {
+        for (item, cents) in amounts {
+            self.row(item, of, *cents)?;
         }
-        i += 1;
+        Ok(())
     }
-    true
-}
 
-// What a user is charged; how that is settled against its held credit, and what it owes straight to ONS.
-fn charged<R: io::Print + io::Eprint>(rt: &R, month: i64, j: u64, r: UserRow, told: &[u8]) -> bool {
-    if !row(
-        rt,
-        month,
-        b"EUST",
-        Payee::Nobody,
-        j,
-        0,
-        r[stated::EUST],
-        told,
-    ) {
-        return false;
-    }
-    if !row(
-        rt,
-        month,
-        b"overruns",
-        Payee::Nobody,
-        j,
-        0,
-        r[stated::OVERRUNS],
-        told,
-    ) {
-        return false;
-    }
-    if !row(
-        rt,
-        month,
-        b"ret",
-        Payee::Nobody,
-        j,
-        0,
-        r[stated::USER_RET],
-        told,
-    ) {
-        return false;
-    }
-    if !row(rt, month, b"VME", Payee::Nobody, j, 0, r[stated::VME], told) {
-        return false;
-    }
-    row(rt, month, b"CPV", Payee::Nobody, j, 0, r[stated::CPV], told)
-}
-
-fn owed<R: io::Print + io::Eprint>(rt: &R, month: i64, j: u64, r: UserRow, told: &[u8]) -> bool {
-    if !row(
-        rt,
-        month,
-        b"held_before",
-        Payee::Nobody,
-        j,
-        0,
-        r[stated::HELD_BEFORE],
-        told,
-    ) {
-        return false;
-    }
-    if !row(rt, month, b"n", Payee::Nobody, j, 0, r[stated::N], told) {
-        return false;
-    }
-    if !row(rt, month, b"VD", Payee::Nobody, j, 0, r[stated::VD], told) {
-        return false;
-    }
-    if !row(
-        rt,
-        month,
-        b"held_after",
-        Payee::Nobody,
-        j,
-        0,
-        r[stated::HELD_AFTER],
-        told,
-    ) {
-        return false;
-    }
-    row(rt, month, b"ong", Payee::Nobody, j, 0, r[stated::ONG], told)
-}
-
-fn users<R: io::Print + io::Eprint>(rt: &R, month: i64, rows: &[UserRow], told: &[u8]) -> bool {
-    let n = rows.len();
-    let mut i = 0;
-    while i < n {
-        let r = rows[i];
-        let j = i as u64 + 1;
-        if !charged(rt, month, j, r, told) {
-            return false;
+    fn points(&self, rows: &Rows) -> io::Result<()> {
+        let points = self.month.lines.points;
+        for (number, (point, r)) in (1..=points.len()).zip(points.iter().zip(&rows.points)) {
+            let amounts = [("use", r.use_charge), ("overrun", r.overrun)];
+            self.rows(Of::Point(point.user, number), &amounts)?;
         }
-        if !owed(rt, month, j, r, told) {
-            return false;
+        Ok(())
+    }
+
+    fn users(&self, rows: &Rows) -> io::Result<()> {
+        for (user, r) in (1..=self.month.lines.users.len()).zip(&rows.users) {
+            let amounts = [
+                ("EUST", r.eust),
+                ("overruns", r.overruns),
+                ("ret", r.ret),
+                ("VME", r.vme),
+                ("CPV", r.cpv),
+                ("held_before", r.held_before),
+                ("n", r.n),
+                ("VD", r.vd),
+                ("held_after", r.held_after),
+                ("ong", r.ong),
+            ];
+            self.rows(Of::User(user), &amounts)?;
         }
-        i += 1;
+        Ok(())
     }
-    true
-}
 
-fn agent<R: io::Print + io::Eprint>(rt: &R, month: i64, i: u64, r: PayeeRow, told: &[u8]) -> bool {
-    if !row(
-        rt,
-        month,
-        b"VMST",
-        Payee::Agent(i),
-        0,
-        0,
-        r[stated::VMST],
-        told,
-    ) {
-        return false;
-    }
-    if !row(
-        rt,
-        month,
-        b"VMPA",
-        Payee::Agent(i),
-        0,
-        0,
-        r[stated::VMPA],
-        told,
-    ) {
-        return false;
-    }
-    if !row(
-        rt,
-        month,
-        b"VMANT",
-        Payee::Agent(i),
-        0,
-        0,
-        r[stated::VMANT],
-        told,
-    ) {
-        return false;
-    }
-    if !row(
-        rt,
-        month,
-        b"ret",
-        Payee::Agent(i),
-        0,
-        0,
-        r[stated::PAYEE_RET],
-        told,
-    ) {
-        return false;
-    }
-    row(rt, month, b"VC", Payee::Agent(i), 0, 0, r[stated::VC], told)
-}
-
-fn agents<R: io::Print + io::Eprint>(rt: &R, month: i64, rows: &[PayeeRow], told: &[u8]) -> bool {
-    let n = rows.len();
-    let mut i = 0;
-    while i < n {
-        let r = rows[i];
-        if !agent(rt, month, i as u64 + 1, r, told) {
-            return false;
+    fn agents(&self, rows: &Rows) -> io::Result<()> {
+        for (agent, r) in (1..=self.month.lines.agents.len()).zip(&rows.payees) {
+            let amounts = [
+                ("VMST", r.vmst),
+                ("VMPA", r.vmpa),
+                ("VMANT", r.vmant),
+                ("ret", r.ret),
+                ("VC", r.vc),
+            ];
+            self.rows(Of::Payee(Payee::Agent(agent)), &amounts)?;
         }
-        i += 1;
+        Ok(())
     }
-    true
-}
 
-// ONS's shared part, and its credit with every direct charge.
-fn ons<R: io::Print + io::Eprint>(rt: &R, month: i64, r: PayeeRow, told: &[u8]) -> bool {
-    if !row(rt, month, b"ons", Payee::Ons, 0, 0, r[stated::SHARED], told) {
-        return false;
+    // ONS's shared part, and its credit with every direct charge.
+    fn ons(&self, rows: &Rows) -> io::Result<()> {
+        let r = rows.payees[self.month.lines.agents.len()];
+        let amounts = [("ons", r.shared), ("VC", r.vc)];
+        self.rows(Of::Payee(Payee::Ons), &amounts)
     }
-    row(rt, month, b"VC", Payee::Ons, 0, 0, r[stated::VC], told)
-}
 
-// A payee's cell for each user.
-fn cells_of<R: io::Print + io::Eprint>(
-    rt: &R,
-    month: i64,
-    payee: Payee,
-    cents: &[i64],
-    told: &[u8],
-) -> bool {
-    let n = cents.len();
-    let mut i = 0;
-    while i < n {
-        if !row(rt, month, b"cell", payee, i as u64 + 1, 0, cents[i], told) {
-            return false;
-        }
-        i += 1;
+    fn cells(&self, books: &Books) -> io::Result<()> {
+        let lines = self.month.lines;
+        each_cell(
+            lines.agents.len(),
+            lines.users.len(),
+            &books.cells,
+            |payee: Payee, user: usize, cents: i64| {
+                self.row("cell", Of::Cell(payee, user), cents)
+            },
+        )
     }
-    true
-}
 
-fn cells<R: io::Print + io::Eprint>(
-    rt: &R,
-    month: i64,
-    agents: usize,
-    users: usize,
-    table: &[i64],
-    told: &[u8],
-) -> bool
-    requires { (agents + 1) * users ≤ length table.now }
-{
-    let mut i = 0;
-    while i < agents {
-        let from = i * users;
-        let to = from + users;
-        if !cells_of(
-            rt,
-            month,
-            Payee::Agent(i as u64 + 1),
-            &table[from..to],
-            told,
-        ) {
-            return false;
-        }
-        i += 1;
+    fn amounts(&self, rows: &Rows, balance: i64, books: &Books) -> io::Result<()> {
+        self.points(rows)?;
+        self.users(rows)?;
+        self.agents(rows)?;
+        self.ons(rows)?;
+        self.row("SMSE", Of::Month, balance)?;
+        self.cells(books)
     }
-    let from = agents * users;
-    let to = from + users;
-    cells_of(rt, month, Payee::Ons, &table[from..to], told)
-}
-
-// One row for each point, each user and each payee, ONS last; the balance; and the table of cells.
-pub(crate) fn month<R: io::Print + io::Eprint>(
-    rt: &R,
-    month: i64,
-    lines: &[PointLine],
-    point_rows: &[PointRow],
-    user_rows: &[UserRow],
-    agent_rows: &[PayeeRow],
-    ons_row: PayeeRow,
-    balance: i64,
-    table: &[i64],
-    told: &[u8],
-) -> bool
-    requires { (length point_rows.now ≤ length lines.now) × ((length agent_rows.now + 1) * length user_rows.now ≤ length table.now) }
-{
-    if !points(rt, month, lines, point_rows, told) {
-        return false;
-    }
-    if !users(rt, month, user_rows, told) {
-        return false;
-    }
-    if !agents(rt, month, agent_rows, told) {
-        return false;
-    }
-    if !ons(rt, month, ons_row, told) {
-        return false;
-    }
-    if !row(rt, month, b"SMSE", Payee::Nobody, 0, 0, balance, told) {
-        return false;
-    }
-    cells(rt, month, agent_rows.len(), user_rows.len(), table, told)
 }

@@ -1,49 +1,72 @@
-// The programs over month files (paper 01, "The month file"): they differ in what they print, in its names and in their messages.
+// The programs over month files (paper 01, "The month file"). Each reads standard input whole and closes file after file; they differ in
+// what they print of a month. A line is written by one `println`, which puts it together first: the system alone can cut one. (std's writes
+// at 1,024 bytes; of ours the longest has five numbers of at most 20 bytes.)
 //   input    standard input, up to its limit
-//   lines    a line that is printed
-//   table    the lines of `settle`: cells and held credits
-//   rows     a line of `consulta`
-//   amounts  the lines of `consulta`: every amount of a month
-//   month    one month closed and printed
 //   files    file after file
+//   months   a month's lines, and the room that they are read into
+//   books    the ledger with its held credits, and what else a closing writes
+//   payees   who receives, and a month's cells
+//   report   what a program is called and what it prints
+//   table    the report of `settle`: cells and held credits
+//   amounts  the report of `consulta`: every amount of a month
 #![tactic(auto)]
 
 mod amounts;
+mod books;
 mod files;
 mod input;
-mod lines;
-mod month;
-mod rows;
+mod months;
+mod payees;
+mod report;
 mod table;
 
-use crate::input::Input;
-use std::io;
+use crate::amounts::Amounts;
+use crate::report::Report;
+use crate::table::Table;
+use rules::Refusal;
+use std::{fmt, io};
 
-// What is printed of a closed month: its cells and the new held credits, or every amount.
-#[derive(Clone, Copy)]
-pub enum Print {
-    Table,
-    Amounts,
+// Who bills whom.
+pub fn settle<R: io::Input + io::Print + io::Eprint>(rt: &R) {
+    run::<Table, R>(rt)
 }
 
-// A whole run: the names, then what is printed of each month. `reads` and `writes` are what is said of a read and of a write that fails.
-pub fn run<R: io::Input + io::Print + io::Eprint>(
-    rt: &R,
-    print: Print,
-    names: &[u8],
-    reads: &[u8],
-    writes: &[u8],
-) {
-    if !lines::write(rt, names, writes) {
-        return;
-    }
-    let mut text = input::buffer();
-    let got = input::read_all(rt, &mut text, reads);
-    match got {
-        Input::Text(n) => files::all_files(rt, print, &text[..n], writes),
-        Input::Over => {
-            lines::refused(rt, 12, 0, writes);
+// Every amount.
+pub fn consulta<R: io::Input + io::Print + io::Eprint>(rt: &R) {
+    run::<Amounts, R>(rt)
+}
+
+// What failed, and why.
+#[derive(Drop)]
+enum Failure {
+    Reading(io::Error),
+    Writing(io::Error),
+}
+
+impl fmt::Display for Failure {
+    fn fmt<W: fmt::Write>(&self, f: &mut fmt::Formatter<W>) -> fmt::Result {
+        match self {
+            Failure::Reading(error) => write!(f, "standard input: {error}"),
+            Failure::Writing(error) => write!(f, "standard output: {error}"),
         }
-        Input::Failed => {}
     }
+}
+
+// A whole run. What fails is told on standard error; a failure to say so is not.
+fn run<P: Report, R: io::Input + io::Print + io::Eprint>(rt: &R) {
+    if let Err(failure) = print_report::<P, R>(rt) {
+        let _ = eprintln!(rt; "{}: {failure}", P::PROGRAM);
+    }
+}
+
+// The names, then what is printed of each month.
+fn print_report<P: Report, R: io::Input + io::Print>(rt: &R) -> Result<(), Failure> {
+    rt.println(P::COLUMNS).map_err(Failure::Writing)?;
+    let mut buffer = [0; input::ROOM];
+    let input = input::read_all(rt, &mut buffer).map_err(Failure::Reading)?;
+    let printed = match input {
+        Some(text) => files::print_months::<P, R>(rt, text),
+        None => rt.println(Refusal::TooManyLines(0)),
+    };
+    printed.map_err(Failure::Writing)
 }

@@ -1,6 +1,0 @@
--- The row of an agent begins after as many rows as there are agents before it, that of ONS after all of them.
-use Rattle.std.proofs.Common.{◌-◌}
-use Rattle.runs.proofs.amounts.cells.Given as goal
-
-abbrev pub decreases-loop-i : goal.decreases-loop-i
-decreases-loop-i g l = l.agents - l.i

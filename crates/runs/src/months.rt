@@ -1,0 +1,61 @@
+// A month's lines, and the room that they are read into.
+ghost use Rattle.std.specs.Prelude.{◌≤◌, OnOk, length};
+ghost use Rattle.format.specs.Blocks.{slices};
+ghost use Rattle.format.specs.Reading.{reading};
+ghost use Rattle.runs.specs.declared.months.TheConstants.{AGENTS, USERS, POINTS};
+
+use monthfile::reader::Reader;
+use records::Line;
+use rules::{Agent, MonthLines, Point, Refusal, User};
+
+// What the programs have room for.
+pub(crate) const AGENTS: usize = 16;
+
+pub(crate) const USERS: usize = 64;
+
+pub(crate) const POINTS: usize = 256;
+
+// No more lines than there is room for.
+#[derive(Clone, Copy)]
+pub(crate) struct Month<'a> {
+    pub lines: MonthLines<'a>,
+    ghost few_agents: { length lines.agents.now ≤ AGENTS },
+    ghost few_users: { length lines.users.now ≤ USERS },
+    ghost few_points: { length lines.points.now ≤ POINTS },
+}
+
+#[derive(Drop)]
+pub(crate) struct Lines {
+    agents: [Agent; AGENTS],
+    users: [User; USERS],
+    points: [Point; POINTS],
+}
+
+impl Lines {
+    ghost use Rattle.runs.specs.Runs.{Advances, ReadsNext};
+
+    pub(crate) fn new() -> Lines {
+        Lines {
+            agents: [Agent::of([0; 7]); AGENTS],
+            users: [User::of([0; 4]); USERS],
+            points: [Point::of([0; 9]); POINTS],
+        }
+    }
+
+    // The month of the next file, behind which the reader goes on.
+    pub(crate) fn read(&mut self, reader: &mut Reader<'_>) -> Result<Month<'_>, Refusal>
+        ensures reads { ReadsNext (reading (slices AGENTS USERS POINTS) reader.old.text.now reader.old.at)
+            result reader.old reader.new }
+        ensures advances { OnOk result (Advances reader.old reader.new) }
+    {
+        let file = reader.read(&mut self.agents, &mut self.users, &mut self.points)?;
+        Ok(Month {
+            lines: MonthLines {
+                line: file.line,
+                agents: &self.agents[..file.agents],
+                users: &self.users[..file.users],
+                points: &self.points[..file.points],
+            },
+        })
+    }
+}

@@ -1,0 +1,41 @@
+// Who receives, and a month's cells.
+ghost use Rattle.std.specs.Prelude.{◌≤◌, ◌+◌, ◌*◌, length};
+
+use std::{fmt, io, iter};
+
+// An agent by its number, ONS, or the user itself, which holds a credit.
+#[derive(Clone, Copy)]
+pub(crate) enum Payee {
+    Agent(usize),
+    Ons,
+    Held,
+}
+
+impl fmt::Display for Payee {
+    fn fmt<W: fmt::Write>(&self, f: &mut fmt::Formatter<W>) -> fmt::Result {
+        match self {
+            Payee::Agent(number) => write!(f, "{number}"),
+            Payee::Ons => write!(f, "ons"),
+            Payee::Held => write!(f, "held"),
+        }
+    }
+}
+
+// Prints each cell of a table with its payee and its user: the agents' rows in order, then ONS's. There is a cell for each, so that `zip`
+// leaves none out.
+pub(crate) fn each_cell<F: Fn(Payee, usize, i64) -> io::Result<()>>(
+    agents: usize,
+    users: usize,
+    cells: &[i64],
+    print: F,
+) -> io::Result<()>
+    requires callable { F.IsAlwaysCallable print }
+    requires table { (agents + 1) * users ≤ length cells.now }
+{
+    let payees = (1..=agents).map(Payee::Agent).chain(iter::once(Payee::Ons));
+    let places = payees.flat_map(|payee| (1..=users).map(move |user| (payee, user)));
+    for ((payee, user), cents) in places.zip(cells) {
+        print(payee, user, *cents)?;
+    }
+    Ok(())
+}
