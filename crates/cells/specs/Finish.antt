@@ -2,7 +2,7 @@
 use Rattle.std.specs.Prelude.{◌≡◌, ℕ, zero, suc, ◌+◌, ◌-◌, ◌*◌, ◌<◌, ◌≤◌, min, List, length, get_or, take, replicate, ℤ, pos, ◌+ℤ◌, ◌*ℤ◌, ◌≤ℤ◌, FitsSigned}
 use Rattle.std.specs.Prelude.{slice_index, slice_index_or, refl}
 use Rattle.std.proofs.Math.Path.{sym, ap, subst}
-use Rattle.std.proofs.Common.{ap₂, ◌∙◌, arith, zero-add, length-take}
+use Rattle.std.proofs.Common.{◌∙◌, arith, zero-add, length-take}
 use Rattle.std.proofs.lemmas.List.{length-replicate}
 use Rattle.std.specs.Int.{w64}
 use Rattle.ints.specs.Bridge.{abs, za, add#, eq_in}
@@ -31,18 +31,6 @@ pub record Fillable (vc vd : List ℤ) : Type 0 where
   pub some : pos 1 ≤ℤ sum_ℤ vd
   pub most : sum_ℤ vd ≤ℤ pos 100000000000000000
   pub equal : sum_ℤ vc ≡ sum_ℤ vd
-
--- the slices that `lay` is lent
-pub record Room (vc vd cells : List ℤ) (marks debits lacks wants rows columns : List ℕ) : Type 0 where
-  pub cells_long : length cells ≡ length vc * length vd
-  pub marks_long : length marks ≡ length vc * length vd
-  pub debits_long : length debits ≡ length vd
-  pub lacks_long : length lacks ≡ length vc
-  pub wants_long : length wants ≡ length vd
-  pub rows_long : length rows ≡ length vc
-  pub columns_long : length columns ≡ length vd
-  pub no_wants : (j : ℕ) → slice_index wants j ≡ 0
-  pub no_columns : (j : ℕ) → slice_index columns j ≡ 0
 
 pub unsigned : {vc vd : List ℤ} → Fillable vc vd → (debits : List ℕ) → length debits ≡ length vd → Unsigned vd debits
 unsigned {vc} {vd} F debits e = record { long = e; sign = F.debits; most = omega (za, F.most, eq_in (sum_is vd F.debits)) }
@@ -110,14 +98,15 @@ cells_small {vc} {debits} {w} {cells} G F e = record {
 
 -- ---- what the search asks
 pub wanted : {vc : List ℤ} {debits : List ℕ} {w : ℕ} {cells : List ℤ} {marks lacks wants : List ℕ} → Given vc debits w
-    → Floored vc debits w cells marks lacks wants → {marks' lacks' wants' rows columns : List ℕ}
+    → Floored vc debits w cells marks lacks wants → {marks' lacks' wants' : List ℕ}
     → Kept (length vc) (length debits) marks lacks wants marks' lacks' wants' → length marks ≡ length vc * length debits → length lacks ≡ length vc
-    → length wants ≡ length debits → length rows ≡ length vc → length columns ≡ length debits → Wanted marks' lacks' wants' rows columns
-wanted G F K a b c d e = record {
-  shape = record { cells = K.cells ∙ a ∙ sym (ap₂ ◌*◌ d e); wide = K.wide ∙ c ∙ sym e };
-  tall = K.tall ∙ b ∙ sym d;
+    → length wants ≡ length debits → Wanted (length vc) (length debits) marks' lacks' wants'
+wanted G F K a b c = record {
+  cells = K.cells ∙ a;
+  tall = K.tall ∙ b;
+  wide = K.wide ∙ c;
   small = λ p. K.kind.small p (omega (arith, F.left.clear p));
-  feasible = rw (d, e) (still K (feasible (exact G.balanced) F.left));
+  feasible = still K (feasible (exact G.balanced) F.left);
 }
 
 -- what was dealt counts with what was placed
@@ -185,7 +174,7 @@ module _ {vc vd : List ℤ} {debits : List ℕ} {w : ℕ} (B : Balanced vc debit
         (F.left.cols j k'));
   }
 
--- all of `lay`
+-- all of `fill`
 pub laid : {vc vd : List ℤ} {debits debits' : List ℕ} {w : ℕ} → Fillable vc vd → length debits ≡ length vd → Naturals vd debits debits' (length vd) w
     → {cells : List ℤ} {marks lacks wants marks' lacks' wants' ys : List ℕ} → Floored vc debits' w cells marks lacks wants
     → length cells ≡ length vc * length vd → {m n : ℕ} → m ≡ length vc → n ≡ length vd → Kept m n marks lacks wants marks' lacks' wants' → {m' n' : ℕ}
@@ -203,8 +192,8 @@ laid {vc} {vd} {debits} {debits'} {w} F e N {cells} {ys = ys} L l a b K c d P ou
     (Q.long ∙ l ∙ ap (λ (t : ℕ). length vc * t) (sym long))
 
 -- ---- a part of a fresh array
-pub part_long : (k n : ℕ) → n ≤ k → length (take n (replicate {A = ℕ} k 0)) ≡ n
-part_long k n h = simp (length-take, length-replicate) (omega arith)
+pub part_long : {A : Type 0} (a : A) (k n : ℕ) → n ≤ k → length (take n (replicate k a)) ≡ n
+part_long a k n h = simp (length-take, length-replicate) (omega arith)
 
 pub part_clear : (k n j : ℕ) → slice_index (take n (replicate {A = ℕ} k 0)) j ≡ 0
 part_clear zero zero j = refl

@@ -1,21 +1,21 @@
 -- xs holds the cells' states, wr what each row lacks, wc what each column wants, ro and co what is open.
 -- The driver: every row gets the marks that it wants, and so does every column, wherever some table of numbers (Feasible) says that this can be.
-use Rattle.std.specs.Prelude.{◌≡◌, ℕ, ◌+◌, ◌-◌, ◌*◌, ◌<◌, ◌≤◌, Bool, true, false, List, length, replicate, slice_index, slice_index_or, slice_set, refl}
+use Rattle.std.specs.Prelude.{◌≡◌, ℕ, ◌+◌, ◌-◌, ◌*◌, ◌<◌, ◌≤◌, ◌≢◌, Bool, true, false, List, length, slice_index, slice_index_or, slice_set, refl}
 use Rattle.std.proofs.Common.{sym, ap, ◌∙◌, arith, below_none, below_more, length-set, get_or-set_other}
 use Rattle.std.proofs.Math.Nat.{le_of_mul-le-mul_left}
-use Rattle.std.proofs.lemmas.List.{get_or-replicate}
 use Rattle.ints.specs.NatSums.{Σ, Σ_ext, Σ_scale, Σ_swap, Σ_same}
 use Rattle.cells.specs.Cut.{cut_rows}
 use Rattle.cells.specs.Marks.{at, row, col, one, Kind}
 use Rattle.cells.specs.Kept.{Feasible, still, Kept, kept_none, kept_then, less_one}
-use Rattle.cells.specs.Visit.{Shape, Shut, Moved, RowVisited}
+use Rattle.cells.specs.Visit.{Shut, Moved, RowVisited}
 
 -- what the driver is given, and what it leaves
-pub record Wanted (xs wr wc ro co : List ℕ) : Type 0 where
-  pub shape : Shape xs wc ro co
-  pub tall : length wr ≡ length ro
+pub record Wanted (m n : ℕ) (xs wr wc : List ℕ) : Type 0 where
+  pub cells : length xs ≡ m * n
+  pub tall : length wr ≡ m
+  pub wide : length wc ≡ n
   pub small : (p : ℕ) → slice_index xs p ≤ 2
-  pub feasible : Feasible (length ro) (length co) xs wr wc
+  pub feasible : Feasible m n xs wr wc
 
 pub record Placed (m n : ℕ) (xs wr wc ys : List ℕ) : Type 0 where
   pub rows : (i : ℕ) → i < m → row n ys i ≡ row n xs i + slice_index wr i
@@ -55,31 +55,75 @@ rest {m} {n} {xs} {wr} {wc} F z x hx =
     (omega arith) x hx in
     omega arith
 
--- ---- the loop
-pub record Going (m n : ℕ) (xs wr wc xs' wr' wc' ro' co' : List ℕ) (i : ℕ) : Type 0 where
+-- ---- one mark more: the visit of row i, which lacks one, from open rows and columns
+module _ {m n : ℕ} {xs wr wc xs' wr' wc' : List ℕ} (K : Kept m n xs wr wc xs' wr' wc') (F : Feasible m n xs wr wc) (small : (p : ℕ)
+    → slice_index xs p ≤ 2) {i : ℕ} (hi : i < m) (hw : i < length wr') (w : 0 < slice_index wr' i) where
+  pub kept_more : {ro co : List ℕ} → ((b : ℕ) → b < m → 0 < slice_index ro b) → ((x : ℕ) → x < n → 0 < slice_index co x) → {ys wd ro'' co'' : List ℕ}
+      (r : Bool) → RowVisited m n xs' wc' ro co ys wd ro'' co'' i r → length ys ≡ length xs' → length wd ≡ length wc'
+      → Kept m n xs wr wc ys (slice_set wr' i (slice_index wr' i - 1)) wd
+  kept_more {ro} {co} open_row open_col {ys} {wd} {ro''} {co''} r v ly lw = with_found (found r v)
+    where
+      found : (r : Bool) → RowVisited m n xs' wc' ro co ys wd ro'' co'' i r → Moved m n xs' wc' ro co ys wd (λ b. one b i) (λ x. 0)
+      found true v = v.found refl
+      found false v =
+          let o = v.none refl in
+          absurd (never (still K F) (λ p. K.kind.small p (small p)) open_row open_col o.2 i hi o.3 w)
+
+      with_found : Moved m n xs' wc' ro co ys wd (λ b. one b i) (λ x. 0) → Kept m n xs wr wc ys (slice_set wr' i (slice_index wr' i - 1)) wd
+      with_found v = kept_then K (record {
+        rows = λ b h. omega (arith, v.rows b h, less_one wr' i b hw w);
+        cols = λ x h. omega (arith, v.cols x h);
+        kind = v.kind;
+        cells = ly;
+        tall = length-set wr' i (slice_index wr' i - 1);
+        wide = lw;
+      })
+
+-- what it keeps while row i is given its marks: what the other rows lack
+pub record Placing (m n : ℕ) (xs wr wc xs' wr' wc' : List ℕ) (i : ℕ) : Type 0 where
+  pub kept : Kept m n xs wr wc xs' wr' wc'
+  pub other : (b : ℕ) → (b ≢ i) → slice_index wr' b ≡ slice_index wr b
+
+pub placing_start : {m n : ℕ} (xs wr wc : List ℕ) (i : ℕ) → Placing m n xs wr wc xs wr wc i
+placing_start xs wr wc i = record { kept = kept_none xs wr wc; other = λ b f. refl }
+
+pub placing_on : {m n : ℕ} {xs wr wc xs' wr' wc' ys wd : List ℕ} {i : ℕ} → Placing m n xs wr wc xs' wr' wc' i
+    → Kept m n xs wr wc ys (slice_set wr' i (slice_index wr' i - 1)) wd → Placing m n xs wr wc ys (slice_set wr' i (slice_index wr' i - 1)) wd i
+placing_on {wr' = wr'} {i = i} g k = record { kept = k; other = λ b f. get_or-set_other wr' i b (slice_index wr' i - 1) 0 f ∙ g.other b f }
+
+-- and what it leaves
+pub record RowPlaced (m n : ℕ) (xs wr wc xs' wr' wc' : List ℕ) (i : ℕ) : Type 0 where
+  pub going : Placing m n xs wr wc xs' wr' wc' i
+  pub none : slice_index wr' i ≡ 0
+
+-- ---- the rows below i have their marks
+pub record Going (m n : ℕ) (xs wr wc xs' wr' wc' : List ℕ) (i : ℕ) : Type 0 where
   pub here : i ≤ m
   pub kept : Kept m n xs wr wc xs' wr' wc'
   pub done : (b : ℕ) → b < i → slice_index wr' b ≡ 0
-  pub tall : length ro' ≡ m
-  pub long : length co' ≡ n
 
-pub going_start : (xs wr wc ro co : List ℕ) → Going (length ro) (length co) xs wr wc xs wr wc ro co 0
-going_start xs wr wc ro co = record {
-  here = omega arith;
-  kept = kept_none xs wr wc;
-  done = below_none _;
-  tall = refl;
-  long = refl;
-}
+pub going_start : {m n : ℕ} (xs wr wc : List ℕ) → Going m n xs wr wc xs wr wc 0
+going_start xs wr wc = record { here = omega arith; kept = kept_none xs wr wc; done = below_none _ }
 
-module _ {m n : ℕ} {xs wr wc xs' wr' wc' ro' co' : List ℕ} {i : ℕ} (g : Going m n xs wr wc xs' wr' wc' ro' co' i) where
-  pub going_past : i < m → slice_index wr' i ≡ 0 → Going m n xs wr wc xs' wr' wc' ro' co' (i + 1)
-  going_past h e = record {
+module _ {m n : ℕ} {xs wr wc xs' wr' wc' : List ℕ} {i : ℕ} (g : Going m n xs wr wc xs' wr' wc' i) where
+  pub going_past : i < m → slice_index wr' i ≡ 0 → Going m n xs wr wc xs' wr' wc' (i + 1)
+  going_past h e = record { here = omega arith; kept = g.kept; done = below_more _ _ g.done e }
+
+  -- row i has one mark more
+  pub going_on : {ys wd : List ℕ} → Kept m n xs wr wc ys (slice_set wr' i (slice_index wr' i - 1)) wd
+      → Going m n xs wr wc ys (slice_set wr' i (slice_index wr' i - 1)) wd i
+  going_on k = record {
+    here = g.here;
+    kept = k;
+    done = λ b h. rw (get_or-set_other wr' i b (slice_index wr' i - 1) 0 (λ q. absurd (omega arith))) (g.done b h);
+  }
+
+  -- row i has all its marks
+  pub going_row : i < m → {ys wr'' wd : List ℕ} → RowPlaced m n xs' wr' wc' ys wr'' wd i → Going m n xs wr wc ys wr'' wd (i + 1)
+  going_row h p = record {
     here = omega arith;
-    kept = g.kept;
-    done = below_more _ _ g.done e;
-    tall = g.tall;
-    long = g.long;
+    kept = kept_then g.kept p.going.kept;
+    done = below_more _ _ (λ b l. p.going.other b (λ q. absurd (omega arith)) ∙ g.done b l) p.none;
   }
 
   pub going_end : Feasible m n xs wr wc → m ≤ i → Placed m n xs wr wc xs'
@@ -91,38 +135,12 @@ module _ {m n : ℕ} {xs wr wc xs' wr' wc' ro' co' : List ℕ} {i : ℕ} (g : Go
         kind = g.kept.kind;
       }
 
-  -- the visit of row i, from open rows and columns, found a mark
-  pub going_on : Feasible m n xs wr wc → ((p : ℕ) → slice_index xs p ≤ 2) → i < m → i < length wr' → 0 < slice_index wr' i → {ro co : List ℕ}
-      → length ro ≡ length ro'
-      → length co ≡ length co' → ro ≡ replicate (length ro') 1 → co ≡ replicate (length co') 1 → {ys wd ro'' co'' : List ℕ} (r : Bool)
-      → RowVisited (length ro) (length co) xs' wc' ro co ys wd ro'' co'' i r → length ys ≡ length xs' → length wd ≡ length wc' → length ro'' ≡ length ro
-      → length co'' ≡ length co → Going m n xs wr wc ys (slice_set wr' i (slice_index wr' i - 1)) wd ro'' co'' i
-  going_on F small hi hw w {ro} {co} kr kc er ec {ys} {wd} {ro''} {co''} r v ly lw lr lc = with_found (found r (rw (kr ∙ g.tall, kc ∙ g.long) at v))
-    where
-      open_row : (b : ℕ) → b < m → 0 < slice_index ro b
-      open_row b l = rw (er, g.tall) (omega (arith, get_or-replicate {A = ℕ} m b 1 0 l))
-
-      open_col : (x : ℕ) → x < n → 0 < slice_index co x
-      open_col x l = rw (ec, g.long) (omega (arith, get_or-replicate {A = ℕ} n x 1 0 l))
-
-      found : (r : Bool) → RowVisited m n xs' wc' ro co ys wd ro'' co'' i r → Moved m n xs' wc' ro co ys wd (λ b. one b i) (λ x. 0)
-      found true v = v.found refl
-      found false v =
-          let o = v.none refl in
-          absurd (never (still g.kept F) (λ p. g.kept.kind.small p (small p)) open_row open_col o.2 i hi o.3 w)
-
-      with_found : Moved m n xs' wc' ro co ys wd (λ b. one b i) (λ x. 0) → Going m n xs wr wc ys (slice_set wr' i (slice_index wr' i - 1)) wd ro'' co'' i
-      with_found v = record {
-        here = g.here;
-        kept = kept_then g.kept (record {
-          rows = λ b h. omega (arith, v.rows b h, less_one wr' i b hw w);
-          cols = λ x h. omega (arith, v.cols x h);
-          kind = v.kind;
-          cells = ly;
-          tall = length-set wr' i (slice_index wr' i - 1);
-          wide = lw;
-        });
-        done = λ b h. rw (get_or-set_other wr' i b (slice_index wr' i - 1) 0 (λ q. absurd (omega arith))) (g.done b h);
-        tall = lr ∙ kr ∙ g.tall;
-        long = lc ∙ kc ∙ g.long;
-      }
+-- what the driver was given holds of what is left
+pub still_wanted : {m n : ℕ} {xs wr wc xs' wr' wc' : List ℕ} → Wanted m n xs wr wc → Kept m n xs wr wc xs' wr' wc' → Wanted m n xs' wr' wc'
+still_wanted W K = record {
+  cells = K.cells ∙ W.cells;
+  tall = K.tall ∙ W.tall;
+  wide = K.wide ∙ W.wide;
+  small = λ p. K.kind.small p (W.small p);
+  feasible = still K W.feasible;
+}

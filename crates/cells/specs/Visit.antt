@@ -1,8 +1,8 @@
 -- The search: what a visit of a row, or of a column, has done where it found a column that wants a mark, and where it found none.
 -- xs holds the cells' states; ro and co hold, of each row and column, a number above 0 while it is open, and 0 once it was visited.
 -- wc holds the marks that each column still wants.
-use Rattle.std.specs.Prelude.{◌≡◌, ℕ, zero, suc, ◌+◌, ◌-◌, ◌*◌, ◌<◌, ◌≤◌, Bool, true, false, ◌⊎◌, List, length, ◌≢◌, slice_index, slice_index_or, slice_set}
-use Rattle.std.specs.Prelude.{refl}
+use Rattle.std.specs.Prelude.{◌≡◌, ℕ, zero, suc, ◌+◌, ◌-◌, ◌*◌, ◌<◌, ◌≤◌, Bool, true, false, Option, Some, None, ◌⊎◌, List, length, ◌≢◌, refl}
+use Rattle.std.specs.Prelude.{slice_index, slice_index_or, slice_set}
 use Rattle.std.proofs.Common.{sym, ap, ◌∙◌, inl, inr, ⊎_elim, arith, below_none, below_more, get_or-set_same, get_or-set_other}
 use Rattle.std.proofs.Math.Decide.{ℕ_discrete}
 use Rattle.ints.specs.NatSums.{total, total_set}
@@ -177,35 +177,36 @@ pub record Shape (xs wc ro co : List ℕ) : Type 0 where
   pub cells : length xs ≡ length ro * length co
   pub wide : length wc ≡ length co
 
--- ---- a column that row i can take at once, or none (r is then the number of columns)
-pub record Free (n : ℕ) (xs wc co : List ℕ) (i r : ℕ) : Type 0 where
-  pub within : r ≤ n
-  pub found : r < n → (at n xs i r ≡ 1) × (0 < slice_index wc r) × (0 < slice_index co r)
-  pub none : r ≡ n → (x : ℕ) → x < n → at n xs i x ≡ 1 → 0 < slice_index co x → slice_index wc x ≡ 0
+-- ---- a column that row i can take at once, if there is one
+abbrev pub Free : ℕ → List ℕ → List ℕ → List ℕ → ℕ → Option ℕ → Type 0
+Free n xs wc co i None = (x : ℕ) → x < n → at n xs i x ≡ 1 → 0 < slice_index co x → slice_index wc x ≡ 0
+Free n xs wc co i (Some j) = (j < n) × (at n xs i j ≡ 1) × (0 < slice_index wc j) × (0 < slice_index co j)
 
--- the columns below j have been looked at; best wants the most of them, or is the number of columns
-pub record FreeInv (n : ℕ) (xs wc co : List ℕ) (i best most j : ℕ) : Type 0 where
+-- the best so far, which wants most
+abbrev pub Best : ℕ → List ℕ → List ℕ → List ℕ → ℕ → ℕ → Option ℕ → Type 0
+Best n xs wc co i most None = most ≡ 0
+Best n xs wc co i most (Some j) = Free n xs wc co i (Some j)
+
+-- the columns below j have been looked at
+pub record FreeInv (n : ℕ) (xs wc co : List ℕ) (i : ℕ) (best : Option ℕ) (most j : ℕ) : Type 0 where
   pub here : j ≤ n
-  pub within : best ≤ n
-  pub found : best < n → (at n xs i best ≡ 1) × (0 < slice_index wc best) × (0 < slice_index co best)
-  pub none : best ≡ n → most ≡ 0
+  pub found : Best n xs wc co i most best
   pub all : (x : ℕ) → x < j → at n xs i x ≡ 1 → 0 < slice_index co x → slice_index wc x ≤ most
 
-pub free_start : (n : ℕ) (xs wc co : List ℕ) (i : ℕ) → FreeInv n xs wc co i n 0 0
-free_start n xs wc co i = record { here = omega arith; within = omega arith; found = λ l. absurd (omega arith); none = λ e. refl; all = below_none _ }
+pub free_start : (n : ℕ) (xs wc co : List ℕ) (i : ℕ) → FreeInv n xs wc co i None 0 0
+free_start n xs wc co i = record { here = omega arith; found = refl; all = below_none _ }
 
-module _ {n : ℕ} {xs wc co : List ℕ} {i best most j : ℕ} (I : FreeInv n xs wc co i best most j) (hj : j < n) where
+module _ {n : ℕ} {xs wc co : List ℕ} {i : ℕ} {best : Option ℕ} {most j : ℕ} (I : FreeInv n xs wc co i best most j) (hj : j < n) where
   pub free_pass : (at n xs i j ≡ 1 → 0 < slice_index co j → slice_index wc j ≤ most) → FreeInv n xs wc co i best most (j + 1)
-  free_pass f = record { here = omega arith; within = I.within; found = I.found; none = I.none; all = below_more _ _ I.all f }
+  free_pass f = record { here = omega arith; found = I.found; all = below_more _ _ I.all f }
 
-  pub free_better : most < slice_index wc j → at n xs i j ≡ 1 → 0 < slice_index co j → FreeInv n xs wc co i j (slice_index wc j) (j + 1)
+  pub free_better : most < slice_index wc j → at n xs i j ≡ 1 → 0 < slice_index co j → FreeInv n xs wc co i (Some j) (slice_index wc j) (j + 1)
   free_better l e o = record {
     here = omega arith;
-    within = omega arith;
-    found = λ h. (e, omega arith, o);
-    none = λ z. absurd (omega arith);
+    found = (hj, e, omega arith, o);
     all = below_more _ _ (λ x k a b. omega (arith, I.all x k a b)) (λ a b. omega arith);
   }
 
-pub free_end : {n : ℕ} {xs wc co : List ℕ} {i best most j : ℕ} → FreeInv n xs wc co i best most j → n ≤ j → Free n xs wc co i best
-free_end I l = record { within = I.within; found = I.found; none = λ e x h a b. omega (arith, I.none e, I.all x (omega arith) a b) }
+pub free_end : {n : ℕ} {xs wc co : List ℕ} {i : ℕ} (best : Option ℕ) {most j : ℕ} → FreeInv n xs wc co i best most j → n ≤ j → Free n xs wc co i best
+free_end None I l = λ x h a b. omega (arith, I.found, I.all x (omega arith) a b)
+free_end (Some b) I l = I.found

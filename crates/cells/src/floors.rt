@@ -1,103 +1,92 @@
 // The floors of the table, which of its cells are broken, and the marks that each row lacks and each column wants. Remainders are added
 // up as whole multiples of w and what is left below w, so that no sum passes a word.
-ghost use Rattle.std.specs.Prelude.{◌≡◌, ◌+◌, ◌<◌, ◌≤◌, min, length, pos};
+ghost use Rattle.std.specs.Prelude.{◌≡◌, ◌+◌, ◌-◌, ◌*◌, ◌<◌, ◌≤◌, min, length};
 ghost use Rattle.cells.specs.Naturals.{Unsigned, Naturals};
-ghost use Rattle.cells.specs.Rows.{Carried, RowAsks, RowFloors};
-ghost use Rattle.cells.specs.Floors.{Given, Slices, Floored};
+ghost use Rattle.cells.specs.Rows.{Carried, RowAsks};
+ghost use Rattle.cells.specs.Floors.{Given};
+ghost use Rattle.cells.specs.Marking.{FloorsRow, HasRoom, Floors};
+
+use super::marks::{BROKEN, Marking, WHOLE};
+use share::weights::Rate;
 
 // The debits as unsigned numbers; their sum.
 pub(crate) fn naturals(vd: &[i64], debits: &mut [u64]) -> u64
     requires { Unsigned vd.now debits.old }
     ensures { Naturals vd.now debits.old debits.new (length vd.now) result }
 {
-    let n = vd.len();
-    let mut sum: u64 = 0;
-    let mut j = 0;
-    while j < n {
-        let x = vd[j] as u64;
-        debits[j] = x;
-        sum += x;
-        j += 1;
+    let mut sum = 0;
+    for (j, &v) in vd.iter().enumerate() {
+        let debit = v as u64;
+        debits[j] = debit;
+        sum += debit;
     }
     sum
 }
 
-// 1 where something is left over.
-fn broken(rest: u64) -> u64
+// What a cell is whose floor leaves this over.
+fn state(rest: u64) -> u64
     ensures { result ≡ min 1 rest }
 {
-    if rest > 0 { 1 } else { 0 }
+    if rest == 0 { WHOLE } else { BROKEN }
 }
 
-// How often s has w in it: not at all, or once.
-fn carry(s: u64, w: u64) -> u64
-    requires { s < w + w }
-    ensures { Carried s w result }
+// Adds a remainder to what is left below w; how often w is whole in the sum, not at all or once, is taken out of it and returned.
+fn add(left: &mut u64, rest: u64, w: u64) -> u64
+    requires { (left.old + rest < w + w) × (w ≤ 100000000000000000) }
+    ensures { Carried (left.old + rest) w result × (left.new ≡ left.old + rest - result * w) }
 {
-    if s < w { 0 } else { 1 }
-}
-
-// The floors of one row, whose credit is v: its cells, from base on, and which of them are broken. The remainders are added to the
-// columns' sums, `wants` times w and `lefts`, and those of the row are returned in whole multiples of w.
-fn floor_row(
-    v: i64,
-    debits: &[u64],
-    w: u64,
-    cells: &mut [i64],
-    marks: &mut [u64],
-    wants: &mut [u64],
-    lefts: &mut [u64],
-    base: usize,
-) -> u64
-    requires { RowAsks v debits.now w cells.old marks.old wants.old lefts.old base }
-    ensures { RowFloors v debits.now w cells.old marks.old wants.old lefts.old base
-        cells.new marks.new wants.new lefts.new (length debits.now) result }
-{
-    let n = debits.len();
-    let k = share::weights::rate_of(share::size(v), w);
-    let mut lacks: u64 = 0;
-    let mut left: u64 = 0;
-    let mut j = 0;
-    while j < n {
-        let x = debits[j];
-        let p = share::weights::at_rate(k, x, w);
-        let f = share::signed(v, x, w, p);
-        let q = f.quot;
-        let r = f.rem;
-        cells[base + j] = q;
-        marks[base + j] = broken(r);
-        let s = lefts[j] + r;
-        let c = carry(s, w);
-        lefts[j] = s - c * w;
-        wants[j] = wants[j] + c;
-        let t = left + r;
-        let d = carry(t, w);
-        left = t - d * w;
-        lacks += d;
-        j += 1;
+    *left += rest;
+    if *left < w {
+        return 0;
     }
-    lacks
+    *left -= w;
+    1
 }
 
-// All floors. wants and lefts come in as zeros.
-pub(crate) fn floors(
-    vc: &[i64],
-    debits: &[u64],
-    w: u64,
-    cells: &mut [i64],
-    marks: &mut [u64],
-    lacks: &mut [u64],
-    wants: &mut [u64],
-    lefts: &mut [u64],
-)
-    requires { Given vc.now debits.now w × Slices vc.now debits.now cells.old marks.old lacks.old wants.old lefts.old }
-    ensures { Floored vc.now debits.now w cells.new marks.new lacks.new wants.new }
-{
-    let m = vc.len();
-    let n = debits.len();
-    let mut i = 0;
-    while i < m {
-        lacks[i] = floor_row(vc[i], debits, w, cells, marks, wants, lefts, i * n);
-        i += 1;
+impl Marking<'_> {
+    // The floors of row i, whose credit is v, and which of its cells are broken. The remainders are added to the columns' sums, `wants`
+    // times w and `lefts`; those of the row are what it lacks, in whole multiples of w.
+    fn floor_row(
+        &mut self,
+        i: usize,
+        v: i64,
+        debits: &[u64],
+        w: u64,
+        cells: &mut [i64],
+        lefts: &mut [u64],
+    )
+        requires { (i < length self.old.lacks.now)
+            × RowAsks v debits.now w cells.old self.old.marks.now self.old.wants.now lefts.old (i * length debits.now) }
+        ensures { FloorsRow self.old i v debits.now w cells.old lefts.old self.new cells.new lefts.new }
+    {
+        let base = i * debits.len();
+        let rate = Rate::of(v, w);
+        let mut lacks = 0;
+        let mut left = 0;
+        for (j, &x) in debits.iter().enumerate() {
+            let cell = rate.at(x);
+            cells[base + j] = cell.quot;
+            self.marks[base + j] = state(cell.rem);
+            self.wants[j] += add(&mut lefts[j], cell.rem, w);
+            lacks += add(&mut left, cell.rem, w);
+        }
+        self.lacks[i] = lacks;
+    }
+
+    // All floors. wants and lefts come in as zeros.
+    pub(crate) fn floors(
+        &mut self,
+        vc: &[i64],
+        debits: &[u64],
+        w: u64,
+        cells: &mut [i64],
+        lefts: &mut [u64],
+    )
+        requires { Given vc.now debits.now w × HasRoom self.old vc.now debits.now cells.old lefts.old }
+        ensures { Floors vc.now debits.now w cells.new self.old self.new }
+    {
+        for (i, &v) in vc.iter().enumerate() {
+            self.floor_row(i, v, debits, w, cells, lefts);
+        }
     }
 }

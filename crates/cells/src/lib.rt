@@ -5,18 +5,27 @@
 
 mod deal;
 mod floors;
+mod marks;
 mod search;
 
 ghost use Rattle.std.specs.Prelude.{◌≡◌, ◌-◌, ◌*◌, ◌≤◌, length, pos};
 ghost use Rattle.rules.specs.Table.{Table};
-ghost use Rattle.cells.specs.Finish.{Fillable, Room, PostAsks, Posted};
+ghost use Rattle.cells.specs.Finish.{Fillable, PostAsks, Posted};
+
+use marks::{MARKED, Marking};
+use search::Unvisited;
+
+// The most payees and users of a table.
+const PAYEES: usize = 257;
+
+const USERS: usize = 512;
 
 // The cent that a cell's mark adds to its floor.
 fn cent(mark: u64) -> i64
     requires { mark ≤ 2 }
     ensures { result ≡ pos (mark - 1) }
 {
-    if mark == 2 { 1 } else { 0 }
+    i64::from(mark == MARKED)
 }
 
 // Adds the marks to the floors.
@@ -24,37 +33,9 @@ fn post(cells: &mut [i64], marks: &[u64])
     requires { PostAsks cells.old marks.now }
     ensures { Posted cells.old marks.now cells.new (length cells.old) }
 {
-    let n = cells.len();
-    let mut i = 0;
-    while i < n {
-        let e = cent(marks[i]);
-        cells[i] = cells[i] + e;
-        i += 1;
+    for (i, &mark) in marks.iter().enumerate() {
+        cells[i] += cent(mark);
     }
-}
-
-// The table, with room lent for what each row and column needs. `columns` first holds what the floors leave of each column's sum, and
-// then which columns the search has open.
-fn lay(
-    vc: &[i64],
-    vd: &[i64],
-    cells: &mut [i64],
-    marks: &mut [u64],
-    debits: &mut [u64],
-    lacks: &mut [u64],
-    wants: &mut [u64],
-    rows: &mut [u64],
-    columns: &mut [u64],
-    counts: &mut [u64],
-)
-    requires { Fillable vc.now vd.now × Room vc.now vd.now cells.old marks.old debits.old lacks.old wants.old rows.old columns.old }
-    ensures { Table vc.now vd.now cells.new }
-{
-    let w = floors::naturals(vd, debits);
-    floors::floors(vc, debits, w, cells, marks, lacks, wants, columns);
-    deal::deal(marks, lacks, wants, counts);
-    search::place(marks, lacks, wants, rows, columns);
-    post(cells, marks);
 }
 
 // Writes the table of the payees' credits vc and the users' debits vd, payee by payee, users in order. Which broken cells take the
@@ -66,22 +47,25 @@ pub fn fill(vc: &[i64], vd: &[i64], cells: &mut [i64], work: &mut [u64])
 {
     let m = vc.len();
     let n = vd.len();
-    let mut debits = [0u64; 512];
-    let mut lacks = [0u64; 257];
-    let mut wants = [0u64; 512];
-    let mut rows = [0u64; 257];
-    let mut columns = [0u64; 512];
-    let mut counts = [0u64; 258];
-    lay(
-        vc,
-        vd,
-        cells,
-        &mut work[..m * n],
-        &mut debits[..n],
-        &mut lacks[..m],
-        &mut wants[..n],
-        &mut rows[..m],
-        &mut columns[..n],
-        &mut counts[..m + 1],
-    );
+    let mut debits = [0; USERS];
+    let mut lacks = [0; PAYEES];
+    let mut wants = [0; USERS];
+    let mut lefts = [0; USERS];
+    let mut counts = [0; PAYEES + 1];
+    let mut rows = [false; PAYEES];
+    let mut columns = [false; USERS];
+    let debits = &mut debits[..n];
+    let w = floors::naturals(vd, debits);
+    let mut table = Marking {
+        marks: &mut work[..m * n],
+        lacks: &mut lacks[..m],
+        wants: &mut wants[..n],
+    };
+    table.floors(vc, debits, w, cells, &mut lefts[..n]);
+    table.deal(&mut counts[..m + 1]);
+    table.place(&mut Unvisited {
+        rows: &mut rows[..m],
+        columns: &mut columns[..n],
+    });
+    post(cells, table.marks);
 }

@@ -1,139 +1,101 @@
 // The search for marks: depth first, over rows and columns in turn, which turns the cells of the way it found on its way back out.
-// A cell is 0 (whole), 1 (broken) or 2 (broken and marked); an entry of `rows` and `columns` is above 0 while that row or column is open.
-ghost use Rattle.std.specs.Prelude.{◌≡◌, ℕ, ◌+◌, ◌*◌, ◌<◌, ◌≤◌, length, replicate, slice_index};
-ghost use Rattle.cells.specs.Visit.{Shape, Free, RowVisited, ColVisited};
-ghost use Rattle.cells.specs.Place.{Wanted, Placed};
+ghost use Rattle.std.specs.Prelude.{◌≡◌, ◌+◌, ◌*◌, ◌<◌, ◌≤◌, length, slice_index, slice_index_or, IsTrue, false};
+ghost use Rattle.cells.specs.Unvisited.{IsShape, FreeIn, VisitsRow, VisitsColumn, IsWanted, PlacesRow, Places};
 
-// Of the open columns whose cell in row i is broken and has no mark, the one that wants most; the number of columns where none wants any.
-fn most_wanting(marks: &[u64], wants: &[u64], columns: &[u64], i: usize) -> usize
-    requires { (length wants.now ≡ length columns.now) × (i * length columns.now + length columns.now ≤ length marks.now) }
-    ensures { Free (length columns.now) marks.now wants.now columns.now i result }
-{
-    let n = columns.len();
-    let base = i * n;
-    let mut best = n;
-    let mut most: u64 = 0;
-    let mut j = 0;
-    while j < n {
-        let x = j;
-        j += 1;
-        if wants[x] > most {
-            if marks[base + x] == 1 {
-                if columns[x] > 0 {
-                    best = x;
-                    most = wants[x];
-                }
+use super::marks::{BROKEN, MARKED, Marking};
+
+// The rows and columns that the search has not visited: those that are open.
+#[derive(Drop)]
+pub(crate) struct Unvisited<'a> {
+    pub rows: &'a mut [bool],
+    pub columns: &'a mut [bool],
+}
+
+impl Marking<'_> {
+    // Of the open columns whose cell in row i is broken and has no mark, the first that wants most, if any wants one.
+    fn most_wanting(&self, unvisited: &Unvisited, i: usize) -> Option<usize>
+        requires { IsShape self.now unvisited.now × (i < length unvisited.now.rows.now) }
+        ensures { FreeIn self.now unvisited.now i result }
+    {
+        let n = unvisited.columns.len();
+        let mut best = None;
+        let mut most = 0;
+        for (j, &want) in self.wants.iter().enumerate() {
+            if want > most && self.marks[i * n + j] == BROKEN && unvisited.columns[j] {
+                best = Some(j);
+                most = want;
             }
         }
+        best
     }
-    best
-}
 
-// Visits row i, which is open: finds it one more mark, or shows that there is none to be had.
-#[cycle(visit)]
-pub(crate) fn visit_row(
-    marks: &mut [u64],
-    wants: &mut [u64],
-    rows: &mut [u64],
-    columns: &mut [u64],
-    i: usize,
-) -> bool
-    requires { Shape marks.old wants.old rows.old columns.old × (i < length rows.old) × (0 < slice_index rows.old i) }
-    ensures { RowVisited (length rows.old) (length columns.old) marks.old wants.old rows.old
-        columns.old marks.new wants.new rows.new columns.new i result }
-{
-    let m = rows.len();
-    let n = columns.len();
-    rows[i] = 0;
-    let f = most_wanting(marks, wants, columns, i);
-    if f < n {
-        wants[f] -= 1;
-        marks[i * n + f] = 2;
-        return true;
-    }
-    let mut j = 0;
-    while j < n {
-        let x = j;
-        j += 1;
-        if columns[x] > 0 {
-            if marks[i * n + x] == 1 {
-                if visit_column(marks, wants, rows, columns, x) {
-                    marks[i * n + x] = 2;
-                    return true;
-                }
+    // Visits row i, which is open: finds it one more mark, or shows that there is none to be had.
+    #[cycle(visit)]
+    fn visit_row(&mut self, unvisited: &mut Unvisited, i: usize) -> bool
+        requires { IsShape self.old unvisited.old × (i < length unvisited.old.rows.now)
+            × IsTrue (slice_index_or unvisited.old.rows.now i false) }
+        ensures { VisitsRow self.old unvisited.old self.new unvisited.new i result }
+    {
+        let n = unvisited.columns.len();
+        unvisited.rows[i] = false;
+        if let Some(j) = self.most_wanting(unvisited, i) {
+            self.wants[j] -= 1;
+            self.marks[i * n + j] = MARKED;
+            return true;
+        }
+        for j in 0..n {
+            if unvisited.columns[j]
+                && self.marks[i * n + j] == BROKEN
+                && self.visit_column(unvisited, j)
+            {
+                self.marks[i * n + j] = MARKED;
+                return true;
             }
         }
+        false
     }
-    false
-}
 
-// Visits column j, which is open and wants no mark: has it give up a mark whose row finds another, or shows that there is none such.
-#[cycle(visit)]
-pub(crate) fn visit_column(
-    marks: &mut [u64],
-    wants: &mut [u64],
-    rows: &mut [u64],
-    columns: &mut [u64],
-    j: usize,
-) -> bool
-    requires { Shape marks.old wants.old rows.old columns.old × (j < length columns.old) × (0 < slice_index columns.old j)
-        × (slice_index wants.old j ≡ 0) }
-    ensures { ColVisited (length rows.old) (length columns.old) marks.old wants.old rows.old
-        columns.old marks.new wants.new rows.new columns.new j result }
-{
-    let m = rows.len();
-    let n = columns.len();
-    columns[j] = 0;
-    let mut i = 0;
-    while i < m {
-        let b = i;
-        i += 1;
-        if rows[b] > 0 {
-            if marks[b * n + j] == 2 {
-                if visit_row(marks, wants, rows, columns, b) {
-                    marks[b * n + j] = 1;
-                    return true;
-                }
+    // Visits column j, which is open and wants no mark: has it give up a mark whose row finds another, or shows that there is none such.
+    #[cycle(visit)]
+    fn visit_column(&mut self, unvisited: &mut Unvisited, j: usize) -> bool
+        requires { IsShape self.old unvisited.old × (j < length unvisited.old.columns.now)
+            × IsTrue (slice_index_or unvisited.old.columns.now j false) × (slice_index self.old.wants.now j ≡ 0) }
+        ensures { VisitsColumn self.old unvisited.old self.new unvisited.new j result }
+    {
+        let n = unvisited.columns.len();
+        unvisited.columns[j] = false;
+        for i in 0..unvisited.rows.len() {
+            if unvisited.rows[i]
+                && self.marks[i * n + j] == MARKED
+                && self.visit_row(unvisited, i)
+            {
+                self.marks[i * n + j] = BROKEN;
+                return true;
             }
         }
+        false
     }
-    false
-}
 
-// Opens every row, or every column.
-fn reopen(all: &mut [u64])
-    ensures { all.new ≡ replicate (length all.old) 1 }
-{
-    let mut i = 0;
-    while i < all.len() {
-        all[i] = 1;
-        i += 1;
+    // Gives row i every mark that it lacks.
+    fn place_row(&mut self, unvisited: &mut Unvisited, i: usize)
+        requires { IsWanted self.old unvisited.old × (i < length unvisited.old.rows.now) }
+        ensures { PlacesRow self.old unvisited.old self.new unvisited.new i }
+    {
+        while self.lacks[i] > 0 {
+            unvisited.rows.fill(true);
+            unvisited.columns.fill(true);
+            self.visit_row(unvisited, i);
+            self.lacks[i] -= 1;
+        }
     }
-}
 
-// Gives every row and every column the marks that it wants. Only broken cells are marked.
-pub(crate) fn place(
-    marks: &mut [u64],
-    lacks: &mut [u64],
-    wants: &mut [u64],
-    rows: &mut [u64],
-    columns: &mut [u64],
-)
-    requires { Wanted marks.old lacks.old wants.old rows.old columns.old }
-    ensures { Placed (length rows.old) (length columns.old) marks.old lacks.old wants.old
-        marks.new }
-{
-    let m = rows.len();
-    let n = columns.len();
-    let mut i = 0;
-    while i < m {
-        if lacks[i] > 0 {
-            reopen(rows);
-            reopen(columns);
-            visit_row(marks, wants, rows, columns, i);
-            lacks[i] -= 1;
-        } else {
-            i += 1;
+    // Gives every row and every column the marks that it wants. Only broken cells are marked.
+    pub(crate) fn place(&mut self, unvisited: &mut Unvisited)
+        requires { IsWanted self.old unvisited.old }
+        ensures { Places self.old unvisited.old self.new }
+    {
+        for i in 0..self.lacks.len() {
+            self.place_row(unvisited, i);
         }
     }
 }

@@ -1,10 +1,6 @@
 -- What was written so far, and its sum.
-use Rattle.std.proofs.Common.{◌-◌}
 use Rattle.cells.specs.Naturals.{Naturals}
 use Rattle.cells.proofs.floors.naturals.Given as goal
 
 abbrev pub invariant-loop-j : goal.invariant-loop-j
 invariant-loop-j l = Naturals l.vd l.initial.debits l.debits l.j l.sum
-
-abbrev pub decreases-loop-j : goal.decreases-loop-j
-decreases-loop-j l = l.n - l.j

@@ -84,20 +84,16 @@ module _ (a b : ℕ) (a-fits : a < 2 ^ 64) (b-fits : b < 2 ^ 64) where
 
 pub returns : goal.returns
 returns c =
-    let d = c.before in
-    let n = d.before.before.before.before in
-    let h = n.before in
-    let s = h.before.before.before.before in
-    let a = s.args.a in
-    let b = s.args.b in
+    let a = c.args.a in
+    let b = c.args.b in
     simp (
-      d.high_half.ensures,
-      d.add-low.ensures,
-      n.add-middle.ensures,
-      h.high_half-b1.ensures,
-      h.low_half-b0.ensures,
-      h.high_half-a1.ensures,
-      h.low_half-a0.ensures,
+      c.high_half.ensures,
+      c.add-low.ensures,
+      c.add-middle.ensures,
+      c.high_half-b1.ensures,
+      c.low_half-b0.ensures,
+      c.high_half-a1.ensures,
+      c.low_half-a0.ensures,
     )
-    (words_is (high (top a b) (across a b) (bottom a b)) (column (across a b) (bottom a b) % 2 ^ 64) (a * b) (whole a b s.ranges.a.fits s.ranges.b.fits)
+    (words_is (high (top a b) (across a b) (bottom a b)) (column (across a b) (bottom a b) % 2 ^ 64) (a * b) (whole a b c.ranges.a.fits c.ranges.b.fits)
     (mod-lt _ (pow_pos 64)))

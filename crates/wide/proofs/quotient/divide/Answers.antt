@@ -5,7 +5,6 @@ use lib.Arith.{digits_mod}
 use lib.Count.{count_leading_zeros, leading_top}
 use Rattle.wide.proofs.Laws.{divides, divided_is}
 use Rattle.wide.proofs.quotient.divide.Goals as goal
-use Rattle.wide.proofs.quotient.divide.Goals.{Start}
 
 -- the divisor c times S has its top bit set; T moves the other way
 record Up (c S T : ℕ) : Type 0 where
@@ -74,32 +73,35 @@ module _ (n c S v q r : ℕ) (S_pos : 0 < S) (v_is : v ≡ c * S) (whole : q * v
   back_lt h = (div-lt_iff_lt-mul S_pos).1 (subst (λ (t : ℕ). r < t) v_is h)
 
 -- at the places of the code
-positive : (c : Start) → 0 < c.args.c
-positive c = omega arith
-
-low_fits : (c : Start) → c.args.n.low < 2 ^ 64
-low_fits c = let f : Fits w64 c.args.n.low = search rules in f.fits
-
-words : (c : Start) → Moved c.args.c c.args.n.high c.args.n.low (2 ^ count_leading_zeros 64 c.args.c) (2 ^ (63 - count_leading_zeros 64 c.args.c))
-words c =
-    moved _ _ _ _ _ (up c.args.c (positive c) c.ranges.c.fits) (pow_pos (count_leading_zeros 64 c.args.c))
-    (pow_pos (63 - count_leading_zeros 64 c.args.c)) c.requires (low_fits c)
+words : (c h l : ℕ) → h < c → Fits w64 c → Fits w64 l → Moved c h l (2 ^ count_leading_zeros 64 c) (2 ^ (63 - count_leading_zeros 64 c))
+words c h l k f g =
+    moved _ _ _ _ _ (up c (omega arith) f.fits) (pow_pos (count_leading_zeros 64 c)) (pow_pos (63 - count_leading_zeros 64 c)) k g.fits
 
 pub overflow_add-high : goal.overflow_add-high
-overflow_add-high c = let w = words c.before.before in record { fits = lt_trans w.x_lt w.v_lt }
+overflow_add-high c =
+    let f : Fits w64 c.args.n.low = search rules in
+    let w = words c.args.c c.args.n.high c.args.n.low c.requires c.ranges.c f in
+    record { fits = lt_trans w.x_lt w.v_lt }
 
-pub normal-r-requires : goal.normal-r-requires
-normal-r-requires c = let w = words c.before.before.before in (w.v_top, w.x_lt)
+pub invariant_of-divisor : goal.invariant_of-divisor
+invariant_of-divisor c =
+    let f : Fits w64 c.args.n.low = search rules in
+    record { top = (words c.args.c c.args.n.high c.args.n.low c.requires c.ranges.c f).v_top }
+
+pub divide-r-requires : goal.divide-r-requires
+divide-r-requires c =
+    let f : Fits w64 c.args.n.low = search rules in
+    (words c.args.c c.args.n.high c.args.n.low c.requires c.ranges.c f).x_lt
 
 pub returns : goal.returns
 returns c =
-    let d = c.before in
-    let s = d.before.before.before.before in
-    let w = words s in
-    let S_pos = pow_pos (count_leading_zeros 64 s.args.c) in
-    let z : 0 < (s.args.c * 2 ^ count_leading_zeros 64 s.args.c) % 2 ^ 64 = omega (arith, w.v_top) in
-    let t = divides z d.normal-r.ensures in
-    let n = s.args.n.high * 2 ^ 64 + s.args.n.low in
-    divided_is _ s.args.c _ n
-    (back n s.args.c _ _ _ _ S_pos w.v_is (t.whole ∙ w.all))
-    (back_lt n s.args.c _ _ _ _ S_pos w.v_is (t.whole ∙ w.all) t.small)
+    let a = c.args in
+    let f : Fits w64 c.args.n.low = search rules in
+    let w = words a.c a.n.high a.n.low c.requires c.ranges.c f in
+    let S_pos = pow_pos (count_leading_zeros 64 a.c) in
+    let z : 0 < (a.c * 2 ^ count_leading_zeros 64 a.c) % 2 ^ 64 = omega (arith, w.v_top) in
+    let t = divides z c.divide-r.ensures in
+    let n = a.n.high * 2 ^ 64 + a.n.low in
+    divided_is _ a.c _ n
+    (back n a.c _ _ _ _ S_pos w.v_is (t.whole ∙ w.all))
+    (back_lt n a.c _ _ _ _ S_pos w.v_is (t.whole ∙ w.all) t.small)

@@ -4,7 +4,6 @@ use Rattle.wide.specs.declared.Words.{Words}
 use Rattle.wide.specs.Exact.{divided, ratio, words}
 use Rattle.wide.proofs.Laws.{ratio_by_zero, ratio_exact, ratio_over}
 use Rattle.wide.proofs.quotient.of_product.Goals as goal
-use Rattle.wide.proofs.quotient.of_product.Goals.{Else-c-eq0}
 
 -- a number by its two words
 number : (n : ℕ) (w : Words) → w ≡ words n → w.high * 2 ^ 64 + w.low ≡ n
@@ -24,35 +23,28 @@ over n c w e z h =
     let k : c ≤ n / 2 ^ 64 = rw e at h in
     (le-div_iff_mul-le z).1 (omega arith)
 
-positive : (c : Else-c-eq0) → 0 < c.args.c
-positive c = pos_of_ne-zero c.if-c-eq0.false
-
 pub returns-then-c-eq0 : goal.returns-then-c-eq0
 returns-then-c-eq0 c = sym (ap (λ (n : ℕ). ratio c.args.a c.args.b n) c.if-c-eq0.true ∙ ratio_by_zero c.args.a c.args.b)
 
 pub returns-then-n-eq0 : goal.returns-then-n-eq0
 returns-then-n-eq0 c =
-    let t = c.before.before in
-    let m = t.before.before in
-    let a = m.args in
-    let low = m.multiply-n.result.low in
-    let e : low ≡ a.a * a.b = one_word (a.a * a.b) m.multiply-n.result m.multiply-n.ensures t.if-n-eq0.true in
+    let a = c.args in
+    let low = c.multiply-n.result.low in
+    let e : low ≡ a.a * a.b = one_word (a.a * a.b) c.multiply-n.result c.multiply-n.ensures c.if-n-eq0.true in
     let f : Fits w64 low = search rules in
     let k : a.a * a.b / a.c < 2 ^ 64 = subst (λ (n : ℕ). n / a.c < 2 ^ 64) e (lt_of_le_of_lt (div-le_self low a.c) f.fits) in
-    sym (ratio_exact a.a a.b a.c (positive m.before) k ∙ ap (λ (n : ℕ). Ok (divided n a.c)) (sym e))
+    sym (ratio_exact a.a a.b a.c (pos_of_ne-zero c.if-c-eq0.false) k ∙ ap (λ (n : ℕ). Ok (divided n a.c)) (sym e))
 
 pub returns-then-n-c : goal.returns-then-n-c
 returns-then-n-c c =
-    let m = c.before.before.before.before.before in
-    let a = m.args in
-    let e = number (a.a * a.b) m.multiply-n.result m.multiply-n.ensures in
+    let a = c.args in
+    let e = number (a.a * a.b) c.multiply-n.result c.multiply-n.ensures in
     sym
-    (ratio_exact a.a a.b a.c (positive m.before) (fits (a.a * a.b) a.c m.multiply-n.result m.multiply-n.ensures c.if-n-c.true)
+    (ratio_exact a.a a.b a.c (pos_of_ne-zero c.if-c-eq0.false) (fits (a.a * a.b) a.c c.multiply-n.result c.multiply-n.ensures c.if-n-c.true)
     ∙ ap Ok (sym (c.divide.ensures ∙ ap (λ (n : ℕ). divided n a.c) e)))
 
 pub returns-else-n-c : goal.returns-else-n-c
 returns-else-n-c c =
-    let m = c.before.before.before.before in
-    let a = m.args in
-    let z = positive m.before in
-    sym (ratio_over a.a a.b a.c z (over (a.a * a.b) a.c m.multiply-n.result m.multiply-n.ensures z c.if-n-c.false))
+    let a = c.args in
+    let z = pos_of_ne-zero c.if-c-eq0.false in
+    sym (ratio_over a.a a.b a.c z (over (a.a * a.b) a.c c.multiply-n.result c.multiply-n.ensures z c.if-n-c.false))
