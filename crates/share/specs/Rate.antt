@@ -1,7 +1,7 @@
 -- One amount over many weights of one sum w: its size is whole · w + part, and part over w is a fraction of 2^63. For each weight
 -- t the product with the fraction is the quotient of part × t over w, or one less.
 use Rattle.std.specs.Prelude.{◌≡◌, ℕ, ◌+◌, ◌*◌, ◌/◌, ◌%◌, ◌^◌, ◌<◌, ◌≤◌, ℤ}
-use Rattle.std.proofs.Common.{sym, ap, ap₂, ◌∙◌, ⊎_elim, arith, mul-le-mul_right, mul-lt-mul_of_pos_right, le_of_mul-le-mul_right, div-add-mod', mod-lt, div-lt_iff_lt-mul}
+use Rattle.std.proofs.Common.{sym, ap, ap₂, ◌∙◌, ⊎_elim, arith, mul-le-mul_right, mul-lt-mul_of_pos_right, le_of_mul-le-mul_right, div-add-mod', mod-lt}
 use Rattle.std.proofs.Math.Arith.{digits_div, digits_mod}
 use Rattle.ints.specs.Bridge.{abs}
 use Rattle.ints.specs.NatSums.{le_or_lt}
@@ -56,14 +56,6 @@ near part f t w z h F =
           low = le_of_mul-le-mul_right {k = 2 ^ 64} (omega arith) (omega arith);
           high = ⊎_elim (λ o. absurd (omega arith)) (λ o. o) (le_or_lt (q * w + (w + w)) (part * t));
         }
-
--- and it is at most 2 t
-pub high_le : (f t : ℕ) → f < 2 ^ 64 → f * (2 * t) / 2 ^ 64 < 2 * t + 1
-high_le f t h =
-    let z : 0 < 2 ^ 64 = omega arith in
-    let g : f ≤ 2 ^ 64 = omega arith in
-    let m : f * (2 * t) ≤ 2 ^ 64 * (2 * t) = mul-le-mul_right (2 * t) g in
-    (div-lt_iff_lt-mul z).1 (omega arith)
 
 -- a difference taken modulo 2^64, of numbers that differ by less
 pub wrapped : (n y r : ℕ) → y ≤ n → n < y + 2 ^ 64 → r < 2 ^ 64 → (r + y % 2 ^ 64) % 2 ^ 64 ≡ n % 2 ^ 64 → r + y ≡ n

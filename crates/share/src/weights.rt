@@ -22,9 +22,9 @@ pub struct Floored {
 pub struct Rate {
     pub amount: i64,
     pub w: u64,
-    pub whole: u64,
-    pub part: u64,
-    pub fraction: u64,
+    whole: u64,
+    part: u64,
+    fraction: u64,
     ghost rated: { Rated amount w whole part fraction },
 }
 
@@ -69,7 +69,7 @@ impl Rate {
         }
     }
 
-    // The size's t over w.
+    // The size × t over w.
     fn size_at(self, t: u64) -> Divided
         requires { t ≤ self.w }
         ensures { result ≡ divided (abs self.amount * t) self.w }
@@ -88,7 +88,7 @@ impl Rate {
         }
     }
 
-    // The amount's t over w: what is below 0 goes by its size, and a remainder takes it one further down.
+    // The amount × t over w: what is below 0 goes by its size, and a remainder takes it one further down.
     pub fn at(self, t: u64) -> Floored
         requires { t ≤ self.w }
         ensures { Split (self.amount *ℤ pos t) self.w result.quot result.rem }

@@ -6,7 +6,7 @@ pub mod product;
 pub mod quotient;
 
 // A number of two words.
-#[derive(Clone, Copy)]
+#[derive(Clone, Copy, Debug, PartialEq, Eq)]
 pub struct Words {
     pub high: u64,
     pub low: u64,

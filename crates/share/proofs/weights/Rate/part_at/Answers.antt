@@ -6,7 +6,8 @@ use Rattle.share.specs.declared.weights.Rate.{Rate}
 use Rattle.share.specs.Rate.{Near, near, wrapped, divided_is}
 use Rattle.share.proofs.weights.Rate.part_at.Goals as goal
 
-module _ (k : Rate) {t : ℕ} {q n y : Words} (h : t ≤ k.w) (q_is : q ≡ words (k.fraction * (2 * t))) (n_is : n ≡ words (k.part * t)) (y_is : y ≡ words (q.high * k.w)) where
+module _ (k : Rate) {t : ℕ} {q n y : Words} (h : t ≤ k.w)
+    (q_is : q ≡ words (k.fraction * (2 * t))) (n_is : n ≡ words (k.part * t)) (y_is : y ≡ words (q.high * k.w)) where
   close_by : Near (k.part * t) k.w q.high
   close_by = rw q_is (near k.part k.fraction t k.w (omega (arith, k.rated.less)) (omega (arith, k.rated.total)) k.rated.rounded)
 
