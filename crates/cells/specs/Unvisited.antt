@@ -2,7 +2,7 @@
 -- In those laws a list of numbers says what is open, above 0 while it is.
 use Rattle.std.specs.Prelude.{◌≡◌, ℕ, ◌*◌, ◌<◌, Bool, true, false, cond, Option, List, length, map, slice_index, slice_index_or, slice_set}
 use Rattle.std.specs.Prelude.{replicate, refl}
-use Rattle.std.proofs.Common.{sym, ap, ap₂, ◌∙◌, arith}
+use Rattle.std.proofs.Common.{ap, ◌∙◌, arith}
 use Rattle.std.proofs.lemmas.List.{map-set, length-map, length-replicate, get_or-map, get_or-replicate}
 use Rattle.cells.specs.declared.marks.Marking.{Marking}
 use Rattle.cells.specs.declared.search.Unvisited.{Unvisited}
@@ -56,9 +56,6 @@ pub record Still (t : Marking) (o : Unvisited) (t' : Marking) (o' : Unvisited) :
   pub wide : length t'.wants.now ≡ length t.wants.now
   pub rows : length o'.rows.now ≡ length o.rows.now
   pub columns : length o'.columns.now ≡ length o.columns.now
-
-pub still_shape : {t t' : Marking} {o o' : Unvisited} → IsShape t o → Still t o t' o' → IsShape t' o'
-still_shape S k = record { cells = k.cells ∙ S.cells ∙ sym (ap₂ ◌*◌ k.rows k.columns); wide = k.wide ∙ S.wide ∙ sym k.columns }
 
 pub still_then : {t t' t'' : Marking} {o o' o'' : Unvisited} → Still t o t' o' → Still t' o' t'' o'' → Still t o t'' o''
 still_then a b = record {

@@ -1,9 +1,9 @@
 -- The laws of `Turns` at what the structs hold.
-use Rattle.std.proofs.Common.{◌+◌, ◌-◌, ◌*◌, ◌<◌, false, length, slice_index_or, slice_set, refl, ◌∙◌, arith, length-set}
+use Rattle.std.proofs.Common.{◌<◌, false, length, slice_set, ◌∙◌, arith, rules, length-set}
 use Rattle.cells.specs.Marks.{below}
 use Rattle.cells.specs.Turns.{row_now, row_start, row_skip, row_miss, row_wants, row_less, row_hit, row_last}
 use Rattle.cells.specs.Turns.{col_start, col_skip, col_miss, col_less, col_hit, col_last}
-use Rattle.cells.specs.Unvisited.{opened, length-opened, opened-set, opened_on, opened_off, still_shape, still_then}
+use Rattle.cells.specs.Unvisited.{opened, length-opened, opened-set, opened_on, opened_off, still_then}
 use Rattle.cells.proofs.marks.Marking.+visit.Goals as goal
 use Rattle.cells.proofs.marks.Marking.+visit.Goals.{visit_column-else-unvisited-i-via-then-unvisited-i+then-self-i-eq-MARKED+else-visit_row}
 use Rattle.cells.proofs.marks.Marking.+visit.Goals.{visit_column-else-unvisited-i-via-then-unvisited-i+else-self-i-eq-MARKED}
@@ -17,7 +17,7 @@ pub visit_column-loop-i-init : goal.visit_column-loop-i-init
 visit_column-loop-i-init t c =
     let s = c.args.self.now in
     let o = c.args.unvisited.now in (
-      record { lacks = refl; cells = refl; wide = refl; rows = refl; columns = length-set o.columns.now c.args.j false },
+      search rules,
       rw (opened-set o.columns.now c.args.j)
           (col_start s.marks.now s.wants.now (opened o.rows.now) (slice_set (opened o.columns.now) c.args.j 0) c.args.j (length-opened o.rows.now)
           (length-set (opened o.columns.now) c.args.j 0 ∙ length-opened o.columns.now)),
@@ -29,7 +29,7 @@ visit_column-visit_row-requires t c =
     let I = c.loop-i.invariant in
     let on = opened_on o.columns.now c.args.j c.requires.1 c.requires.2 in (
       omega (arith, c.decreases, col_less (opened o.columns.now) c.args.j (length-opened o.columns.now) c.requires.1 on c.loop-i.i I.1),
-      (still_shape c.requires.0 I.0, omega (arith, c.loop-i-test.true, I.0.rows), c.if-unvisited-i.true),
+      (search rules, omega (arith, c.loop-i-test.true, I.0.rows), c.if-unvisited-i.true),
     )
 
 pub visit_column-returns-then-visit_row : goal.visit_column-returns-then-visit_row
@@ -39,9 +39,8 @@ visit_column-returns-then-visit_row t c =
     let l = c.loop-i in
     let I = l.invariant in
     let v = c.visit_row in
-    let k = still_then I.0 v.ensures.0 in
-    let at = l.i * length o.columns.now + j in (
-      record { lacks = k.lacks; cells = length-set v.new.self.marks.now at 1 ∙ k.cells; wide = k.wide; rows = k.rows; columns = k.columns },
+    let k = still_then I.0 v.ensures.0 in (
+      search rules,
       col_hit (opened o.columns.now) j (length-opened o.columns.now) c.requires.1 (opened_on o.columns.now j c.requires.1 c.requires.2) l.i I.1
           v.result
           c.loop-i-test.true
@@ -91,13 +90,7 @@ visit_row-returns-in-Some t c =
     let o = c.args.unvisited.now in
     let j = c.in-Some.j in
     let S = c.requires.0 in (
-      record {
-        lacks = refl;
-        cells = length-set s.marks.now (i * length o.columns.now + j) 2;
-        wide = length-set s.wants.now j (slice_index_or s.wants.now j 0 - 1);
-        rows = length-set o.rows.now i false;
-        columns = refl;
-      },
+      search rules,
       row_now i j S.cells S.wide c.requires.1 (opened_on o.rows.now i c.requires.1 c.requires.2) c.in-Some.ensures
           (opened (slice_set o.rows.now i false)),
     )
@@ -106,7 +99,7 @@ pub visit_row-loop-j-init : goal.visit_row-loop-j-init
 visit_row-loop-j-init t c =
     let s = c.args.self.now in
     let o = c.args.unvisited.now in (
-      record { lacks = refl; cells = refl; wide = refl; rows = length-set o.rows.now c.args.i false; columns = refl },
+      search rules,
       rw (opened-set o.rows.now c.args.i)
           (row_start s.marks.now s.wants.now (slice_set (opened o.rows.now) c.args.i 0) (opened o.columns.now) c.args.i
           (length-set (opened o.rows.now) c.args.i 0 ∙ length-opened o.rows.now) (length-opened o.columns.now)),
@@ -122,7 +115,7 @@ visit_row-visit_column-requires t c =
     let on = opened_on o.rows.now i c.requires.1 c.requires.2 in (
       omega (arith, c.decreases, row_less (opened o.rows.now) i (length-opened o.rows.now) c.requires.1 on l.j I.1),
       (
-        still_shape c.requires.0 I.0,
+        search rules,
         h,
         c.if-unvisited-j.true,
         row_wants i l.j I.1 c.loop-j-test.true (rw c.in_default.is at c.most_wanting.ensures) c.if-self-i-eq-BROKEN.true
@@ -137,9 +130,8 @@ visit_row-returns-then-visit_column t c =
     let l = c.loop-j in
     let I = l.invariant in
     let v = c.visit_column in
-    let k = still_then I.0 v.ensures.0 in
-    let at = i * length o.columns.now + l.j in (
-      record { lacks = k.lacks; cells = length-set v.new.self.marks.now at 2 ∙ k.cells; wide = k.wide; rows = k.rows; columns = k.columns },
+    let k = still_then I.0 v.ensures.0 in (
+      search rules,
       row_hit (opened o.rows.now) i (length-opened o.rows.now) c.requires.1 (opened_on o.rows.now i c.requires.1 c.requires.2) l.j I.1 v.result
           c.loop-j-test.true
           (omega (arith, below c.requires.1 c.loop-j-test.true, c.requires.0.cells, k.cells))
