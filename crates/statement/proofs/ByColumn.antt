@@ -130,7 +130,8 @@ module _ (s : State) (l : Lines) where
   unfolding agent_rows_of
   from_list field col e h = payee_column field col (by_entry row field l.agents (agent_of []) col e h)
 
-  from_lines : (field : PayeeRow → ℤ) (g : Agent → ℤ) → ((i : ℕ) (a : Agent) → field (row i a) ≡ g a) → map field (payee_rows s l) ≡ map g l.agents ++ field ons ∷ []
+  from_lines : (field : PayeeRow → ℤ) (g : Agent → ℤ)
+      → ((i : ℕ) (a : Agent) → field (row i a) ≡ g a) → map field (payee_rows s l) ≡ map g l.agents ++ field ons ∷ []
   unfolding agent_rows_of
   from_lines field g h = payee_column field (map g l.agents) (by_line row field g 0 l.agents h)
 
