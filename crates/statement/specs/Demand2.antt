@@ -39,7 +39,8 @@ pub record Demand2Stating (c : StateCall) (s : State) : Type 0 where
   pub VMST_is : map (λ (r : PayeeRow). r.vmst) (take (length c.lines.agents + 1) c.payees_left) ≡ of_agents VMST c.lines.agents
   pub VMPA_is :
       let month = c.lines.line.month in
-      map (λ (r : PayeeRow). r.vmpa) (take (length c.lines.agents + 1) c.payees_left) ≡ of_agents (VMPA (settled_to s.month month) (cycle_month month)) c.lines.agents
+      map (λ (r : PayeeRow). r.vmpa) (take (length c.lines.agents + 1) c.payees_left)
+      ≡ of_agents (VMPA (settled_to s.month month) (cycle_month month)) c.lines.agents
   pub VMANT : map (λ (r : PayeeRow). r.vmant) (take (length c.lines.agents + 1) c.payees_left) ≡ VMANTs s c.lines ++ pos 0 ∷ []
   pub payee_ret : map (λ (r : PayeeRow). r.ret) (take (length c.lines.agents + 1) c.payees_left) ≡ of_agents (λ a. a.ret) c.lines.agents
   pub VC : map (λ (r : PayeeRow). r.vc) (take (length c.lines.agents + 1) c.payees_left) ≡ month_credits s c.lines
