@@ -5,6 +5,8 @@ ghost use Rattle.std.specs.Prelude.{◌≡◌};
 ghost use Rattle.format.specs.Machine.{check_of};
 ghost use Rattle.share.specs.Answer.{sharing, seen_by_c};
 
+use monthfile::check::{NotFiles, file_check};
+
 // The part of p between the weight sums `before` and `through` of w, or −10^18 less the place of the refusal.
 #[unsafe(no_mangle)]
 pub extern "C" fn rateio_share(p: i64, before: i64, through: i64, w: i64) -> i64
@@ -18,5 +20,9 @@ pub extern "C" fn rateio_share(p: i64, before: i64, through: i64, w: i64) -> i64
 pub extern "C" fn rateio_check(text: &[u8]) -> i64
     ensures { result ≡ check_of text.now }
 {
-    monthfile::check::file_check(text)
+    match file_check(text) {
+        Ok(()) => -1,
+        Err(NotFiles::At(place)) => place as i64,
+        Err(NotFiles::TooLong) => -2,
+    }
 }
