@@ -23,7 +23,7 @@ use Rattle.statement.specs.declared.UserRow.{UserRow}
 use Rattle.statement.specs.declared.PayeeRow.{PayeeRow}
 use Rattle.statement.specs.Statement.{at, point_row, point_rows, user_rows_of, user_rows, agent_rows_of, ons_row, payee_rows_from, payee_rows}
 use Rattle.statement.specs.Demand2.{of_agents}
-use Rattle.statement.proofs.Entries.{each_at}
+use Rattle.statement.proofs.Entries.{each_at, agent_row}
 
 -- of rows that stand line by line, each with the entry of a list: the list
 by_entry : {A B : Type 0} (f : ℕ → A → B) (field : B → ℤ) (xs : List A) (a : A) (col : List ℤ)
@@ -121,26 +121,36 @@ module _ (s : State) (l : Lines) where
   unfolding payee_rows_from
   payee_column field col e = map-append field agent_rows (ons ∷ []) ∙ ap (λ (xs : List ℤ). xs ++ field ons ∷ []) e
 
-  pub VMST_column : map (λ (r : PayeeRow). r.vmst) (payee_rows s l) ≡ of_agents VMST l.agents
+  -- the row of an agent at i
+  abbrev row : ℕ → Agent → PayeeRow
+  row i a = agent_row s.month l.line.month (VMANTs s l) (agent_VCs s l) a i
+
+  from_list : (field : PayeeRow → ℤ) (col : List ℤ) → length col ≡ length l.agents
+      → ((i : ℕ) (a : Agent) → field (row i a) ≡ at col i) → map field (payee_rows s l) ≡ col ++ field ons ∷ []
   unfolding agent_rows_of
-  VMST_column = payee_column (λ r. r.vmst) (map VMST l.agents) (by_line _ (λ (r : PayeeRow). r.vmst) VMST 0 l.agents (λ i a. refl))
+  from_list field col e h = payee_column field col (by_entry row field l.agents (agent_of []) col e h)
+
+  from_lines : (field : PayeeRow → ℤ) (g : Agent → ℤ)
+      → ((i : ℕ) (a : Agent) → field (row i a) ≡ g a) → map field (payee_rows s l) ≡ map g l.agents ++ field ons ∷ []
+  unfolding agent_rows_of
+  from_lines field g h = payee_column field (map g l.agents) (by_line row field g 0 l.agents h)
+
+  pub VMST_column : map (λ (r : PayeeRow). r.vmst) (payee_rows s l) ≡ of_agents VMST l.agents
+  VMST_column = from_lines (λ r. r.vmst) VMST (λ i a. refl)
 
   pub VMPA_column : map (λ (r : PayeeRow). r.vmpa) (payee_rows s l) ≡ of_agents (VMPA (settled_to s.month l.line.month) (cycle_month l.line.month)) l.agents
-  unfolding agent_rows_of
-  VMPA_column = payee_column (λ r. r.vmpa) _ (by_line _ (λ (r : PayeeRow). r.vmpa) (VMPA (settled_to s.month l.line.month) (cycle_month l.line.month)) 0 l.agents (λ i a. refl))
+  VMPA_column = from_lines (λ r. r.vmpa) _ (λ i a. refl)
 
   pub VMANT_column : map (λ (r : PayeeRow). r.vmant) (payee_rows s l) ≡ VMANTs s l ++ pos 0 ∷ []
-  unfolding agent_rows_of
-  VMANT_column = payee_column (λ r. r.vmant) (VMANTs s l) (by_entry _ (λ (r : PayeeRow). r.vmant) l.agents (agent_of []) (VMANTs s l) (length_VMANTs s l) (λ i a. refl))
+  VMANT_column = from_list (λ r. r.vmant) (VMANTs s l) (length_VMANTs s l) (λ i a. refl)
 
   pub payee_ret_column : map (λ (r : PayeeRow). r.ret) (payee_rows s l) ≡ of_agents (λ a. a.ret) l.agents
-  unfolding agent_rows_of
-  payee_ret_column = payee_column (λ r. r.ret) _ (by_line _ (λ (r : PayeeRow). r.ret) (λ (a : Agent). a.ret) 0 l.agents (λ i a. refl))
+  payee_ret_column = from_lines (λ r. r.ret) _ (λ i a. refl)
 
   pub VC_column : map (λ (r : PayeeRow). r.vc) (payee_rows s l) ≡ month_credits s l
-  unfolding month_credits agent_rows_of
-  VC_column = payee_column (λ r. r.vc) (agent_VCs s l) (by_entry _ (λ (r : PayeeRow). r.vc) l.agents (agent_of []) (agent_VCs s l) (length_agent_VCs s l) (λ i a. refl))
+  unfolding month_credits
+  VC_column = from_list (λ r. r.vc) (agent_VCs s l) (length_agent_VCs s l) (λ i a. refl)
 
   pub shared_column : map (λ (r : PayeeRow). r.shared) (payee_rows s l) ≡ VCs s l
-  unfolding VCsFrom agent_rows_of
-  shared_column = payee_column (λ r. r.shared) (agent_VCs s l) (by_entry _ (λ (r : PayeeRow). r.shared) l.agents (agent_of []) (agent_VCs s l) (length_agent_VCs s l) (λ i a. refl))
+  unfolding VCsFrom
+  shared_column = from_list (λ r. r.shared) (agent_VCs s l) (length_agent_VCs s l) (λ i a. refl)

@@ -1,6 +1,6 @@
--- The contracts of `state` and `state_lines`, written out, and that the functions' own routines meet them: no caller has to show anything
--- first, and what a caller gets goes by the verdict on the arguments, the answer and the slices' last values. Each holds by computation,
--- so a changed contract in src/lib.rt is refused here. Assumes nothing: it is shown at every model.
+-- The contract of `state`, written out, and that the function's own routine meets it: no caller has to show anything first, and what a
+-- caller gets goes by the verdict on the arguments, the answer and the slices' last values. It holds by computation, so a changed contract
+-- in src/lib.rt is refused here. Assumes nothing: it is shown at every model.
 use seplogic.Ra.Ura.{Ura}
 use base.Logic.{emp}
 use prog.Model.{Model}

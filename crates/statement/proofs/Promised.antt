@@ -6,7 +6,6 @@ use native.Mathlib.Omega.{arith}
 use lib.IntN.{ℤ}
 use lib.ListN.{length, drop, length-map, length-append}
 use lib.Seq.{drop_at, length-take-le}
-use Rattle.std.specs.Prelude.{Ok}
 use Rattle.rules.specs.declared.Agent.{Agent}
 use Rattle.rules.specs.Verdict.{Verdict, accepted}
 use Rattle.rules.specs.Credits.{VMANTs, agent_VCs}

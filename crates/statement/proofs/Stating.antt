@@ -16,7 +16,7 @@ use Rattle.rules.specs.Verdict.{Verdict, accepted}
 use Rattle.rules.specs.Answers.{refused_by, verdict_of}
 use Rattle.rules.specs.Lines.{Lines}
 use Rattle.rules.specs.State.{State}
-use Rattle.rules.specs.Refusals.{count_tests, refusal}
+use Rattle.rules.specs.Refusals.{count_tests}
 use Rattle.rules.specs.Calls.{state_of}
 use Rattle.rules.proofs.Tests.{when_accepted, when_then}
 use Rattle.rules.proofs.Passed.{Passed, passed, slices_accepted}

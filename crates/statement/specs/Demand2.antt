@@ -1,6 +1,6 @@
 -- DEMAND 2 of one statement, in words: of an accepted month every amount is the definition's, column by column of the rows that stand in
 -- front of each slice.
-use Rattle.std.specs.Prelude.{ℕ, ◌+◌, ◌≡◌, Ok, List, [], ◌∷◌, ◌++◌, map, ℤ, pos, length, take}
+use Rattle.std.specs.Prelude.{◌+◌, ◌≡◌, Ok, List, [], ◌∷◌, ◌++◌, map, ℤ, pos, length, take}
 use Rattle.rules.specs.declared.Agent.{Agent}
 use Rattle.rules.specs.declared.Point.{Point}
 use Rattle.rules.specs.Calendar.{cycle_month, settled_to}
@@ -39,7 +39,8 @@ pub record Demand2Stating (c : StateCall) (s : State) : Type 0 where
   pub VMST_is : map (λ (r : PayeeRow). r.vmst) (take (length c.lines.agents + 1) c.payees_left) ≡ of_agents VMST c.lines.agents
   pub VMPA_is :
       let month = c.lines.line.month in
-      map (λ (r : PayeeRow). r.vmpa) (take (length c.lines.agents + 1) c.payees_left) ≡ of_agents (VMPA (settled_to s.month month) (cycle_month month)) c.lines.agents
+      map (λ (r : PayeeRow). r.vmpa) (take (length c.lines.agents + 1) c.payees_left)
+      ≡ of_agents (VMPA (settled_to s.month month) (cycle_month month)) c.lines.agents
   pub VMANT : map (λ (r : PayeeRow). r.vmant) (take (length c.lines.agents + 1) c.payees_left) ≡ VMANTs s c.lines ++ pos 0 ∷ []
   pub payee_ret : map (λ (r : PayeeRow). r.ret) (take (length c.lines.agents + 1) c.payees_left) ≡ of_agents (λ a. a.ret) c.lines.agents
   pub VC : map (λ (r : PayeeRow). r.vc) (take (length c.lines.agents + 1) c.payees_left) ≡ month_credits s c.lines

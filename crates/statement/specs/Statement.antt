@@ -87,8 +87,8 @@ abbrev pub payee_rows : State → Lines → List PayeeRow
 payee_rows s l = payee_rows_from (sum_ℤ (VDs s l)) s.month l.line l.agents (sum_ℤ (ongs l.users))
 
 -- ---- why it comes back
--- 2: a slice too short, of the lengths of those that a statement is lent; place 1 held, 7 the points' rows, 8 the users', 9 the payees', the lowest that is: the places between are those
--- of slices that closing is lent. The last count is that of point lines
+-- 2: a slice too short, of the lengths of those that a statement is lent; place 1 held, 7 the points' rows, 8 the users', 9 the payees',
+-- the lowest that is: the places between are those of slices that closing is lent. The last count is that of point lines
 unfoldable pub short_rooms : State → RowRooms → ℕ → Verdict
 short_rooms s n points =
     when (ltb n.held s.users) 2 1

@@ -1,5 +1,5 @@
 -- What an accepted month writes, and what that asks: all of it is what closing's tests have shown.
-use Rattle.std.specs.Prelude.{ℕ, ◌+◌, ◌<◌, ◌≡◌, false, List, [], map, ℤ, length, get_or}
+use Rattle.std.specs.Prelude.{ℕ, ◌+◌, ◌<◌, ◌≡◌, false, List, [], ℤ, length, get_or}
 use Rattle.rules.specs.declared.Ledger.{Ledger}
 use Rattle.rules.specs.declared.Point.{Point}
 use Rattle.rules.specs.Verdict.{Verdict, accepted}
@@ -9,7 +9,7 @@ use Rattle.rules.specs.Credits.{SMSE}
 use Rattle.rules.specs.Refusals.{refusal}
 use Rattle.charges.specs.declared.scan.Sums.{Sums}
 use Rattle.charges.specs.declared.month.Bills.{Bills}
-use Rattle.charges.specs.Scan.{scanned}
+use Rattle.charges.specs.Scan.{SumsOf}
 use Rattle.charges.specs.Month.{Billed}
 use Rattle.statement.specs.declared.PointRow.{PointRow}
 use Rattle.statement.specs.declared.UserRow.{UserRow}
@@ -28,7 +28,7 @@ pub record Statable (ledger : Ledger) (held : List ℤ) (l : Lines) (s : Sums) (
   pub one_each : length st.credits ≡ st.users
   pub last_is : ledger.month ≡ st.month
   pub held_are : held ≡ st.credits
-  pub sums : s ≡ scanned l.users l.points
+  pub sums : SumsOf l s
   pub billed : Billed (length l.users) st l bills
   pub point_count : length rows_of_points ≡ length l.points
   pub user_count : length rows_of_users ≡ length l.users

@@ -39,6 +39,7 @@ pub(crate) fn state_payees(payees: &Payees, direct: i64, out: &mut [PayeeRow]) -
     requires { Within (pos 0) (pos most_direct) direct × (length out.old ≡ length payees.now.agents.now + 1) }
     ensures { StatesPayees payees.now.debits payees.now.last payees.now.line payees.now.agents.now direct result out.new }
 {
+    // room for the most agents: nothing is allocated
     let n = payees.agents.len();
     let mut pb = [0; 256];
     let mut all_vmant = [0; 256];

@@ -10,7 +10,7 @@ use crate::UserRow;
 use closing::judge::Judged;
 use rules::User;
 
-// What users are charged and owe, column by column: an entry for each user.
+// What users are charged and owe, column by column: an entry for each user. Columns, since `share::fill` and the table of cells take them.
 #[derive(Clone, Copy)]
 pub struct Columns<'a> {
     pub uses: &'a [i64],
@@ -63,6 +63,7 @@ pub(crate) fn state_users(
     let n = users.len();
     let uses = &judged.sums.uses[..n];
     let overruns = &judged.sums.overruns[..n];
+    // room for the most users: nothing is allocated
     let mut all_vme = [0; 512];
     let mut all_cpv = [0; 512];
     let vme = &mut all_vme[..n];

@@ -14,28 +14,44 @@ returns-in_err-judged c =
     (c.in_err-judged.ensures _ (begun _ _ _ a.point_rows.now a.user_rows.now a.payee_rows.now (c.stating_verdict-first.ensures a.held.now))).verdict
 
 pub slice_bounds-write-end : goal.slice_bounds-write-end
-slice_bounds-write-end c = let a = c.args in held_lent _ _ _ a.point_rows.now a.user_rows.now a.payee_rows.now (c.stating_verdict-first.ensures a.held.now) c.in_ok-judged.ensures
+slice_bounds-write-end c =
+    let a = c.args in
+    held_lent _ _ _ a.point_rows.now a.user_rows.now a.payee_rows.now (c.stating_verdict-first.ensures a.held.now) c.in_ok-judged.ensures
 
 pub slice_bounds-write-end-2 : goal.slice_bounds-write-end-2
-slice_bounds-write-end-2 c = let a = c.args in points_reach _ _ _ a.point_rows.now a.user_rows.now a.payee_rows.now (c.stating_verdict-first.ensures a.held.now) c.in_ok-judged.ensures
+slice_bounds-write-end-2 c =
+    let a = c.args in
+    points_reach _ _ _ a.point_rows.now a.user_rows.now a.payee_rows.now (c.stating_verdict-first.ensures a.held.now) c.in_ok-judged.ensures
 
 pub slice_bounds-write-end-3 : goal.slice_bounds-write-end-3
-slice_bounds-write-end-3 c = let a = c.args in points_lent _ _ _ a.point_rows.now a.user_rows.now a.payee_rows.now (c.stating_verdict-first.ensures a.held.now) c.in_ok-judged.ensures
+slice_bounds-write-end-3 c =
+    let a = c.args in
+    points_lent _ _ _ a.point_rows.now a.user_rows.now a.payee_rows.now (c.stating_verdict-first.ensures a.held.now) c.in_ok-judged.ensures
 
 pub slice_bounds-write-end-4 : goal.slice_bounds-write-end-4
-slice_bounds-write-end-4 c = let a = c.args in users_reach _ _ _ a.point_rows.now a.user_rows.now a.payee_rows.now (c.stating_verdict-first.ensures a.held.now) c.in_ok-judged.ensures
+slice_bounds-write-end-4 c =
+    let a = c.args in
+    users_reach _ _ _ a.point_rows.now a.user_rows.now a.payee_rows.now (c.stating_verdict-first.ensures a.held.now) c.in_ok-judged.ensures
 
 pub slice_bounds-write-end-5 : goal.slice_bounds-write-end-5
-slice_bounds-write-end-5 c = let a = c.args in users_lent _ _ _ a.point_rows.now a.user_rows.now a.payee_rows.now (c.stating_verdict-first.ensures a.held.now) c.in_ok-judged.ensures
+slice_bounds-write-end-5 c =
+    let a = c.args in
+    users_lent _ _ _ a.point_rows.now a.user_rows.now a.payee_rows.now (c.stating_verdict-first.ensures a.held.now) c.in_ok-judged.ensures
 
 pub slice_bounds-write-end-6 : goal.slice_bounds-write-end-6
-slice_bounds-write-end-6 c = let a = c.args in payees_reach _ _ _ a.point_rows.now a.user_rows.now a.payee_rows.now (c.stating_verdict-first.ensures a.held.now) c.in_ok-judged.ensures
+slice_bounds-write-end-6 c =
+    let a = c.args in
+    payees_reach _ _ _ a.point_rows.now a.user_rows.now a.payee_rows.now (c.stating_verdict-first.ensures a.held.now) c.in_ok-judged.ensures
 
 pub slice_bounds-write-end-7 : goal.slice_bounds-write-end-7
-slice_bounds-write-end-7 c = let a = c.args in payees_lent _ _ _ a.point_rows.now a.user_rows.now a.payee_rows.now (c.stating_verdict-first.ensures a.held.now) c.in_ok-judged.ensures
+slice_bounds-write-end-7 c =
+    let a = c.args in
+    payees_lent _ _ _ a.point_rows.now a.user_rows.now a.payee_rows.now (c.stating_verdict-first.ensures a.held.now) c.in_ok-judged.ensures
 
 pub write-requires : goal.write-requires
-write-requires c = let a = c.args in (_, _, may_write _ _ _ a.point_rows.now a.user_rows.now a.payee_rows.now (c.stating_verdict-first.ensures a.held.now) c.in_ok-judged.ensures)
+write-requires c =
+    let a = c.args in
+    (_, _, may_write _ _ _ a.point_rows.now a.user_rows.now a.payee_rows.now (c.stating_verdict-first.ensures a.held.now) c.in_ok-judged.ensures)
 
 pub returns : goal.returns
 returns c =

@@ -1,4 +1,4 @@
-use Rattle.std.proofs.Common.{◌≡◌, List, [], length, get_or, ℤ, pos, refl, sym, ◌∙◌, arith, rules, to_z-of_z, w64, SFits}
+use Rattle.std.proofs.Common.{◌≡◌, [], get_or, ℤ, pos, refl, sym, ◌∙◌, arith, rules, to_z-of_z, w64, SFits}
 use Rattle.ints.specs.Fill.{filling_more, filling_all}
 use Rattle.ints.specs.Words.{back}
 use Rattle.rules.specs.Calendar.{cycle_month, settled_to}
@@ -20,9 +20,10 @@ pub vmpa-requires : goal.vmpa-requires
 vmpa-requires c =
     let b : SFits w64 c.settled_to-b.result = search rules in
     let m : SFits w64 c.cycle_month-c.result = search rules in
+    let from = from_is c.ranges.last c.ranges.month b c.settled_to-b.ensures in
+    let to = to_is c.ranges.last c.ranges.month m c.cycle_month-c.ensures in
     let pa = (c.requires.1.line c.loop-i.i c.loop-i-test.true).pa in
-    rw (from_is c.ranges.last c.ranges.month b c.settled_to-b.ensures, to_is c.ranges.last c.ranges.month m c.cycle_month-c.ensures, to_z-of_z (correction pa).fits)
-    (twelfths c.requires.0, pa)
+    rw (from, to, to_z-of_z (correction pa).fits) (twelfths c.requires.0, pa)
 
 pub loop-i-preserved : goal.loop-i-preserved
 loop-i-preserved c =
@@ -30,7 +31,6 @@ loop-i-preserved c =
     let i = c.loop-i.i in
     let agent = get_or a.agents.now i (agent_of []) in
     let here = c.loop-i-test.true in
-    let line = c.requires.1.line i here in
     let b : SFits w64 c.settled_to-b.result = search rules in
     let m : SFits w64 c.cycle_month-c.result = search rules in
     let f₀ : SFits w64 c.vmst.result = search rules in
@@ -38,11 +38,15 @@ loop-i-preserved c =
     let f₂ : SFits w64 (get_or a.vmant.now i (pos 0)) = search rules in
     let f₃ : SFits w64 agent.ret = search rules in
     let f₄ : SFits w64 (get_or a.vc.now i (pos 0)) = search rules in
-    let due = rw (from_is c.ranges.last c.ranges.month b c.settled_to-b.ensures, to_is c.ranges.last c.ranges.month m c.cycle_month-c.ensures, to_z-of_z (correction line.pa).fits) at (c.vmpa.ensures agent) in
+    let from = from_is c.ranges.last c.ranges.month b c.settled_to-b.ensures in
+    let to = to_is c.ranges.last c.ranges.month m c.cycle_month-c.ensures in
+    let due = rw (from, to, to_z-of_z (correction (c.requires.1.line i here).pa).fits) at (c.vmpa.ensures agent) in
+    let vmst = to_z-of_z f₀ ∙ c.vmst.ensures in
+    let vmpa = to_z-of_z f₁ ∙ due refl in
     let same = length_agent_rows a.last a.month a.vmant.now a.vc.now a.agents.now ∙ sym c.requires.4 in
-    rw (to_z-of_z c.ranges.last, to_z-of_z c.ranges.month, to_z-of_z f₀, to_z-of_z f₁, to_z-of_z f₂, to_z-of_z f₃, to_z-of_z f₄, c.vmst.ensures, due refl)
-    (filling_more same (rw (to_z-of_z c.ranges.last, to_z-of_z c.ranges.month) at c.loop-i.invariant) (agent_row a.last a.month a.vmant.now a.vc.now agent i)
-    (omega (arith, c.requires.4))
+    let so_far = rw (to_z-of_z c.ranges.last, to_z-of_z c.ranges.month) at c.loop-i.invariant in
+    rw (to_z-of_z c.ranges.last, to_z-of_z c.ranges.month, vmst, vmpa, to_z-of_z f₂, to_z-of_z f₃, to_z-of_z f₄)
+    (filling_more same so_far (agent_row a.last a.month a.vmant.now a.vc.now agent i) (omega (arith, c.requires.4))
     (sym (agent_row_at a.last a.month a.vmant.now a.vc.now a.agents.now i _ here)))
 
 pub returns : goal.returns

@@ -2,7 +2,6 @@
 use Rattle.std.proofs.Common.{List, [], ◌∷◌, ◌++◌, ◌+ℤ◌, ap, ◌∙◌, arith, rules, to_z-of_z, w64, SFits, length-take-le}
 use Rattle.ints.specs.Bridge.{za, add#}
 use Rattle.ints.specs.Fill.{set_last}
-use Rattle.rules.proofs.BoundsAgent.{amount}
 use Rattle.statement.specs.declared.PayeeRow.{PayeeRow}
 use Rattle.statement.specs.Statement.{ons_row, payee_rows_from}
 use Rattle.statement.proofs.payees.state_payees.Goals as goal

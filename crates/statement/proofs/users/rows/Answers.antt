@@ -1,4 +1,4 @@
-use Rattle.std.proofs.Common.{◌≡◌, ℕ, ◌<◌, List, [], get_or, length, pos, sym, ◌∙◌, arith, rules, to_z-of_z, w64, SFits}
+use Rattle.std.proofs.Common.{◌≡◌, ℕ, ◌<◌, List, [], get_or, length, sym, ◌∙◌, arith, rules, to_z-of_z, w64, SFits}
 use Rattle.ints.specs.Bounds.{Word}
 use Rattle.ints.specs.Fill.{filling_more, filling_all}
 use Rattle.rules.specs.declared.User.{User}
@@ -37,9 +37,10 @@ loop-i-preserved c =
     let f₄ : SFits w64 (at a.debits.now i) = search rules in
     let f₅ : SFits w64 (at a.credits.now i) = search rules in
     let f₆ : SFits w64 user.ong = search rules in
-    let n = rw (to_z-of_z w.0.fits, to_z-of_z w.1.fits, to_z-of_z w.2.fits) at c.net-due.ensures in
-    rw (to_z-of_z f₀, to_z-of_z f₁, to_z-of_z f₂, to_z-of_z w.0.fits, to_z-of_z w.1.fits, to_z-of_z w.2.fits, to_z-of_z f₃, n, to_z-of_z f₄, to_z-of_z f₅, to_z-of_z f₆)
-    (filling_more (count c.requires) c.loop-i.invariant (user_row user a i) (omega (arith, c.requires.out_count)) (sym (user_row_at c.requires i h _)))
+    let n = to_z-of_z f₃ ∙ (rw (to_z-of_z w.0.fits, to_z-of_z w.1.fits, to_z-of_z w.2.fits) at c.net-due.ensures) in
+    rw (to_z-of_z f₀, to_z-of_z f₁, to_z-of_z f₂, to_z-of_z w.0.fits, to_z-of_z w.1.fits, to_z-of_z w.2.fits, n, to_z-of_z f₄, to_z-of_z f₅, to_z-of_z f₆)
+    (filling_more (count c.requires) c.loop-i.invariant (user_row user a i) (omega (arith, c.requires.out_count))
+    (sym (user_row_at c.requires i h _)))
 
 pub returns : goal.returns
 returns c = filling_all (count c.requires) c.loop-i.invariant (omega (arith, c.requires.out_count))
