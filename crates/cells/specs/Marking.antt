@@ -1,4 +1,4 @@
--- The slices of a table in one struct, and what calls keep of them.
+-- A table's slices in one struct: what calls ask of it, and what they leave.
 use Rattle.std.specs.Prelude.{◌≡◌, ℕ, ◌*◌, List, length, ℤ, slice_set}
 use Rattle.cells.specs.declared.marks.Marking.{Marking}
 use Rattle.cells.specs.Kept.{Grid, Kept}

@@ -1,9 +1,8 @@
 -- xs holds the cells' states, wr what each row lacks, wc what each column wants, ro and co what is open.
 -- The driver: every row gets the marks that it wants, and so does every column, wherever some table of numbers (Feasible) says that this can be.
-use Rattle.std.specs.Prelude.{◌≡◌, ℕ, ◌+◌, ◌-◌, ◌*◌, ◌<◌, ◌≤◌, ◌≢◌, Bool, true, false, List, length, replicate, slice_index, slice_index_or, slice_set, refl}
+use Rattle.std.specs.Prelude.{◌≡◌, ℕ, ◌+◌, ◌-◌, ◌*◌, ◌<◌, ◌≤◌, ◌≢◌, Bool, true, false, List, length, slice_index, slice_index_or, slice_set, refl}
 use Rattle.std.proofs.Common.{sym, ap, ◌∙◌, arith, below_none, below_more, length-set, get_or-set_other}
 use Rattle.std.proofs.Math.Nat.{le_of_mul-le-mul_left}
-use Rattle.std.proofs.lemmas.List.{get_or-replicate}
 use Rattle.ints.specs.NatSums.{Σ, Σ_ext, Σ_scale, Σ_swap, Σ_same}
 use Rattle.cells.specs.Cut.{cut_rows}
 use Rattle.cells.specs.Marks.{at, row, col, one, Kind}
@@ -97,31 +96,34 @@ pub record RowPlaced (m n : ℕ) (xs wr wc xs' wr' wc' : List ℕ) (i : ℕ) : T
   pub going : Placing m n xs wr wc xs' wr' wc' i
   pub none : slice_index wr' i ≡ 0
 
--- ---- the loop
-pub record Going (m n : ℕ) (xs wr wc xs' wr' wc' ro' co' : List ℕ) (i : ℕ) : Type 0 where
+-- ---- the rows below i have their marks
+pub record Going (m n : ℕ) (xs wr wc xs' wr' wc' : List ℕ) (i : ℕ) : Type 0 where
   pub here : i ≤ m
   pub kept : Kept m n xs wr wc xs' wr' wc'
   pub done : (b : ℕ) → b < i → slice_index wr' b ≡ 0
-  pub tall : length ro' ≡ m
-  pub long : length co' ≡ n
 
-pub going_start : (xs wr wc ro co : List ℕ) → Going (length ro) (length co) xs wr wc xs wr wc ro co 0
-going_start xs wr wc ro co = record {
-  here = omega arith;
-  kept = kept_none xs wr wc;
-  done = below_none _;
-  tall = refl;
-  long = refl;
-}
+pub going_start : {m n : ℕ} (xs wr wc : List ℕ) → Going m n xs wr wc xs wr wc 0
+going_start xs wr wc = record { here = omega arith; kept = kept_none xs wr wc; done = below_none _ }
 
-module _ {m n : ℕ} {xs wr wc xs' wr' wc' ro' co' : List ℕ} {i : ℕ} (g : Going m n xs wr wc xs' wr' wc' ro' co' i) where
-  pub going_past : i < m → slice_index wr' i ≡ 0 → Going m n xs wr wc xs' wr' wc' ro' co' (i + 1)
-  going_past h e = record {
+module _ {m n : ℕ} {xs wr wc xs' wr' wc' : List ℕ} {i : ℕ} (g : Going m n xs wr wc xs' wr' wc' i) where
+  pub going_past : i < m → slice_index wr' i ≡ 0 → Going m n xs wr wc xs' wr' wc' (i + 1)
+  going_past h e = record { here = omega arith; kept = g.kept; done = below_more _ _ g.done e }
+
+  -- row i has one mark more
+  pub going_on : {ys wd : List ℕ} → Kept m n xs wr wc ys (slice_set wr' i (slice_index wr' i - 1)) wd
+      → Going m n xs wr wc ys (slice_set wr' i (slice_index wr' i - 1)) wd i
+  going_on k = record {
+    here = g.here;
+    kept = k;
+    done = λ b h. rw (get_or-set_other wr' i b (slice_index wr' i - 1) 0 (λ q. absurd (omega arith))) (g.done b h);
+  }
+
+  -- row i has all its marks
+  pub going_row : i < m → {ys wr'' wd : List ℕ} → RowPlaced m n xs' wr' wc' ys wr'' wd i → Going m n xs wr wc ys wr'' wd (i + 1)
+  going_row h p = record {
     here = omega arith;
-    kept = g.kept;
-    done = below_more _ _ g.done e;
-    tall = g.tall;
-    long = g.long;
+    kept = kept_then g.kept p.going.kept;
+    done = below_more _ _ (λ b l. p.going.other b (λ q. absurd (omega arith)) ∙ g.done b l) p.none;
   }
 
   pub going_end : Feasible m n xs wr wc → m ≤ i → Placed m n xs wr wc xs'
@@ -132,37 +134,6 @@ module _ {m n : ℕ} {xs wr wc xs' wr' wc' ro' co' : List ℕ} {i : ℕ} (g : Go
         cols = λ x l. omega (arith, g.kept.cols x l, z x l);
         kind = g.kept.kind;
       }
-
-  -- row i has been given its marks
-  pub going_row : i < m → {ys wr'' wd ro'' co'' : List ℕ} → RowPlaced m n xs' wr' wc' ys wr'' wd i → length ro'' ≡ length ro' → length co'' ≡ length co'
-      → Going m n xs wr wc ys wr'' wd ro'' co'' (i + 1)
-  going_row h p lr lc = record {
-    here = omega arith;
-    kept = kept_then g.kept p.going.kept;
-    done = below_more _ _ (λ b l. p.going.other b (λ q. absurd (omega arith)) ∙ g.done b l) p.none;
-    tall = lr ∙ g.tall;
-    long = lc ∙ g.long;
-  }
-
-  -- the visit of row i, from open rows and columns, found a mark
-  pub going_on : Feasible m n xs wr wc → ((p : ℕ) → slice_index xs p ≤ 2) → i < m → i < length wr' → 0 < slice_index wr' i → {ro co : List ℕ}
-      → length ro ≡ length ro'
-      → length co ≡ length co' → ro ≡ replicate (length ro') 1 → co ≡ replicate (length co') 1 → {ys wd ro'' co'' : List ℕ} (r : Bool)
-      → RowVisited (length ro) (length co) xs' wc' ro co ys wd ro'' co'' i r → length ys ≡ length xs' → length wd ≡ length wc' → length ro'' ≡ length ro
-      → length co'' ≡ length co → Going m n xs wr wc ys (slice_set wr' i (slice_index wr' i - 1)) wd ro'' co'' i
-  going_on F small hi hw w {ro} {co} kr kc er ec {ys} {wd} {ro''} {co''} r v ly lw lr lc = record {
-    here = g.here;
-    kept = kept_more g.kept F small hi hw w open_row open_col r (rw (kr ∙ g.tall, kc ∙ g.long) at v) ly lw;
-    done = λ b h. rw (get_or-set_other wr' i b (slice_index wr' i - 1) 0 (λ q. absurd (omega arith))) (g.done b h);
-    tall = lr ∙ kr ∙ g.tall;
-    long = lc ∙ kc ∙ g.long;
-  }
-    where
-      open_row : (b : ℕ) → b < m → 0 < slice_index ro b
-      open_row b l = rw (er, g.tall) (omega (arith, get_or-replicate {A = ℕ} m b 1 0 l))
-
-      open_col : (x : ℕ) → x < n → 0 < slice_index co x
-      open_col x l = rw (ec, g.long) (omega (arith, get_or-replicate {A = ℕ} n x 1 0 l))
 
 -- what the driver was given holds of what is left
 pub still_wanted : {m n : ℕ} {xs wr wc xs' wr' wc' : List ℕ} → Wanted m n xs wr wc → Kept m n xs wr wc xs' wr' wc' → Wanted m n xs' wr' wc'

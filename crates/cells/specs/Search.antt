@@ -1,7 +1,7 @@
 -- The search as a theorem, for tables of any size: a visit always ends, with a mark found or with its part closed. By induction on what
 -- is still open, from the same steps that the code takes.
-use Rattle.std.specs.Prelude.{◌≡◌, ℕ, zero, suc, ◌+◌, ◌-◌, ◌*◌, ◌<◌, ◌≤◌, Bool, true, false, Option, Some, None, List, length, replicate, slice_index, slice_index_or, slice_set}
-use Rattle.std.specs.Prelude.{refl}
+use Rattle.std.specs.Prelude.{◌≡◌, ℕ, zero, suc, ◌+◌, ◌-◌, ◌*◌, ◌<◌, ◌≤◌, Bool, true, false, Option, Some, None, List, length, replicate, refl}
+use Rattle.std.specs.Prelude.{slice_index, slice_index_or, slice_set}
 use Rattle.std.proofs.Common.{sym, ap, ap₂, ◌∙◌, arith, length-set}
 use Rattle.std.proofs.Math.Decide.{ℕ_discrete, dec_lt}
 use Rattle.std.proofs.lemmas.List.{length-replicate, get_or-replicate}
@@ -11,7 +11,7 @@ use Rattle.cells.specs.Kept.{Feasible}
 use Rattle.cells.specs.Visit.{Shape, Free, FreeInv, free_start, free_pass, free_better, free_end, RowVisited, ColVisited}
 use Rattle.cells.specs.Turns.{RowInv, ColInv, row_start, row_skip, row_miss, row_wants, row_less, row_hit, row_last}
 use Rattle.cells.specs.Turns.{row_now, col_start, col_skip, col_miss, col_less, col_hit, col_last}
-use Rattle.cells.specs.Place.{Placed, Going, going_start, going_past, going_on, going_end}
+use Rattle.cells.specs.Place.{Placed, Going, going_start, going_past, going_on, going_end, kept_more}
 
 -- what a visit leaves
 record Answer (marks wants rows columns : List ℕ) (Q : List ℕ → List ℕ → List ℕ → List ℕ → Bool → Type 0) : Type 0 where
@@ -194,7 +194,8 @@ module _ (k : ℕ) (row : Rows k) (marks wants rows columns : List ℕ) (j : ℕ
                 wants' = a.wants';
                 rows' = a.rows';
                 columns' = a.columns';
-                visited = col_hit columns j refl hj o i I a.found h (omega (arith, p, a.cells, ap length I.0.same)) q c (rw (I.0.tall, I.0.long) at a.visited) y;
+                visited = col_hit columns j refl hj o i I a.found h (omega (arith, p, a.cells, ap length I.0.same)) q c
+                    (rw (I.0.tall, I.0.long) at a.visited) y;
                 cells = length-set a.marks' (i * length columns + j) 1 ∙ a.cells ∙ ap length I.0.same;
                 wide = a.wide ∙ ap length I.0.wants;
                 tall = a.tall ∙ I.0.tall;
@@ -224,38 +225,35 @@ pub record AllPlaced (m n : ℕ) (marks lacks wants : List ℕ) : Type 0 where
   pub marks' : List ℕ
   pub placed : Placed m n marks lacks wants marks'
 
+abbrev ones : ℕ → List ℕ
+ones k = replicate k 1
+
+all_open : (k b : ℕ) → b < k → 0 < slice_index (ones k) b
+all_open k b l = omega (arith, get_or-replicate {A = ℕ} k b 1 0 l)
+
 module _ (m n : ℕ) (marks lacks wants : List ℕ) (F : Feasible m n marks lacks wants) (small : (p : ℕ)
     → slice_index marks p ≤ 2) (cells : length marks ≡ m * n) (tall : length lacks ≡ m) (wide : length wants ≡ n) where
-  place_from : (k i : ℕ) {ms ls ws ro co : List ℕ} → Going m n marks lacks wants ms ls ws ro co i → m - i + total ls ≤ k → AllPlaced m n marks lacks wants
+  place_from : (k i : ℕ) {ms ls ws : List ℕ} → Going m n marks lacks wants ms ls ws i → m - i + total ls ≤ k → AllPlaced m n marks lacks wants
   place_from zero i {ms} g b = record { marks' = ms; placed = going_end g F (omega arith) }
-  place_from (suc k) i {ms} {ls} {ws} {ro} {co} g b = go (dec_lt i m) (ℕ_discrete (slice_index ls i) 0) (λ h. place_from k (i + 1) h)
-      (λ ms' ls' ws' ro' co' h. place_from k i h)
+  place_from (suc k) i {ms} {ls} {ws} g b = go (dec_lt i m) (ℕ_discrete (slice_index ls i) 0) (λ h. place_from k (i + 1) h) (λ ms' ls' ws' h. place_from k i h)
     where
-      go : Dec (i < m) → Dec (slice_index ls i ≡ 0) → (Going m n marks lacks wants ms ls ws ro co (i + 1) → m - (i + 1) + total ls ≤ k
-          → AllPlaced m n marks lacks wants) → ((ms' ls' ws' ro' co' : List ℕ) → Going m n marks lacks wants ms' ls' ws' ro' co' i → m - i + total ls' ≤ k
+      go : Dec (i < m) → Dec (slice_index ls i ≡ 0) → (Going m n marks lacks wants ms ls ws (i + 1) → m - (i + 1) + total ls ≤ k
+          → AllPlaced m n marks lacks wants) → ((ms' ls' ws' : List ℕ) → Going m n marks lacks wants ms' ls' ws' i → m - i + total ls' ≤ k
           → AllPlaced m n marks lacks wants) → AllPlaced m n marks lacks wants
       go (no h) e past on = record { marks' = ms; placed = going_end g F (omega (arith, h)) }
       go (yes h) (yes e) past on = past (going_past g h e) (omega arith)
-      go (yes h) (no e) past on = by ((visits (total open_rows + total open_columns)).0 ms ws open_rows open_columns i shape (omega (arith, rows_long)) opened
+      go (yes h) (no e) past on = by ((visits (total (ones m) + total (ones n))).0 ms ws (ones m) (ones n) i shape (omega (arith, rows_long))
+          (all_open m i h)
           (omega arith))
         where
-          open_rows : List ℕ
-          open_rows = replicate (length ro) 1
+          rows_long : length (ones m) ≡ m
+          rows_long = length-replicate m 1
 
-          open_columns : List ℕ
-          open_columns = replicate (length co) 1
+          columns_long : length (ones n) ≡ n
+          columns_long = length-replicate n 1
 
-          rows_long : length open_rows ≡ m
-          rows_long = length-replicate (length ro) 1 ∙ g.tall
-
-          columns_long : length open_columns ≡ n
-          columns_long = length-replicate (length co) 1 ∙ g.long
-
-          shape : Shape ms ws open_rows open_columns
+          shape : Shape ms ws (ones m) (ones n)
           shape = record { cells = g.kept.cells ∙ cells ∙ sym (ap₂ ◌*◌ rows_long columns_long); wide = g.kept.wide ∙ wide ∙ sym columns_long }
-
-          opened : 0 < slice_index open_rows i
-          opened = omega (arith, get_or-replicate {A = ℕ} (length ro) i 1 0 (omega (arith, g.tall)))
 
           within : i < length ls
           within = omega (arith, g.kept.tall, tall)
@@ -263,15 +261,11 @@ module _ (m n : ℕ) (marks lacks wants : List ℕ) (F : Feasible m n marks lack
           lacking : 0 < slice_index ls i
           lacking = omega (arith, e)
 
-          by : RowAnswer ms ws open_rows open_columns i → AllPlaced m n marks lacks wants
+          by : RowAnswer ms ws (ones m) (ones n) i → AllPlaced m n marks lacks wants
           by a =
-              on _ _ _ _ _
-              (going_on g F small h within lacking (length-replicate (length ro) 1) (length-replicate (length co) 1) refl refl a.found a.visited
-              a.cells a.wide a.tall a.long)
+              on _ _ _
+              (going_on g (kept_more g.kept F small h within lacking (all_open m) (all_open n) a.found (rw (rows_long, columns_long) at a.visited) a.cells a.wide))
               (omega (arith, total_set ls i (slice_index ls i - 1) within, lacking))
 
   pub all_placed : AllPlaced m n marks lacks wants
-  all_placed =
-      place_from (m + total lacks) 0
-      (rw (length-replicate {A = ℕ} m 1, length-replicate {A = ℕ} n 1) at (going_start marks lacks wants (replicate m 1) (replicate n 1)))
-      (omega arith)
+  all_placed = place_from (m + total lacks) 0 (going_start marks lacks wants) (omega arith)

@@ -1,8 +1,8 @@
 -- The search: what a visit of a row, or of a column, has done where it found a column that wants a mark, and where it found none.
 -- xs holds the cells' states; ro and co hold, of each row and column, a number above 0 while it is open, and 0 once it was visited.
 -- wc holds the marks that each column still wants.
-use Rattle.std.specs.Prelude.{◌≡◌, ℕ, zero, suc, ◌+◌, ◌-◌, ◌*◌, ◌<◌, ◌≤◌, Bool, true, false, Option, Some, None, ◌⊎◌, List, length, ◌≢◌, slice_index, slice_index_or, slice_set}
-use Rattle.std.specs.Prelude.{refl}
+use Rattle.std.specs.Prelude.{◌≡◌, ℕ, zero, suc, ◌+◌, ◌-◌, ◌*◌, ◌<◌, ◌≤◌, Bool, true, false, Option, Some, None, ◌⊎◌, List, length, ◌≢◌, refl}
+use Rattle.std.specs.Prelude.{slice_index, slice_index_or, slice_set}
 use Rattle.std.proofs.Common.{sym, ap, ◌∙◌, inl, inr, ⊎_elim, arith, below_none, below_more, get_or-set_same, get_or-set_other}
 use Rattle.std.proofs.Math.Decide.{ℕ_discrete}
 use Rattle.ints.specs.NatSums.{total, total_set}

@@ -25,10 +25,11 @@ impl Marking<'_> {
         requires { i * length self.now.wants.now + length self.now.wants.now ≤ length self.now.marks.now }
     {
         let base = i * self.wants.len();
+        let row = &self.marks[base..base + self.wants.len()];
         counts.fill(0);
-        for (j, &want) in self.wants.iter().enumerate() {
+        for (&want, &mark) in self.wants.iter().zip(row) {
             let k = want as usize;
-            if k < counts.len() && self.marks[base + j] == BROKEN {
+            if mark == BROKEN && k < counts.len() {
                 counts[k] += 1;
             }
         }
@@ -39,16 +40,12 @@ impl Marking<'_> {
         requires { IsGrid self.old × (i < length self.old.lacks.now) × (0 < least) }
         ensures { KeepsTotals self.old self.new }
     {
-        // lent out of self once: read through self at every turn, dealing takes a seventh longer
-        let marks = &mut *self.marks;
-        let lacks = &mut *self.lacks;
-        let wants = &mut *self.wants;
-        let n = wants.len();
+        let n = self.wants.len();
         for j in 0..n {
-            if wants[j] >= least && marks[i * n + j] == BROKEN && lacks[i] > 0 {
-                marks[i * n + j] = MARKED;
-                wants[j] -= 1;
-                lacks[i] -= 1;
+            if self.wants[j] >= least && self.marks[i * n + j] == BROKEN && self.lacks[i] > 0 {
+                self.marks[i * n + j] = MARKED;
+                self.wants[j] -= 1;
+                self.lacks[i] -= 1;
             }
         }
     }

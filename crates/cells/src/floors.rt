@@ -23,8 +23,8 @@ pub(crate) fn naturals(vd: &[i64], debits: &mut [u64]) -> u64
     sum
 }
 
-// A cell of whose exact value this is left over.
-fn mark(rest: u64) -> u64
+// What a cell is whose floor leaves this over.
+fn state(rest: u64) -> u64
     ensures { result ≡ min 1 rest }
 {
     if rest == 0 { WHOLE } else { BROKEN }
@@ -66,7 +66,7 @@ impl Marking<'_> {
         for (j, &x) in debits.iter().enumerate() {
             let cell = rate.at(x);
             cells[base + j] = cell.quot;
-            self.marks[base + j] = mark(cell.rem);
+            self.marks[base + j] = state(cell.rem);
             self.wants[j] += add(&mut lefts[j], cell.rem, w);
             lacks += add(&mut left, cell.rem, w);
         }

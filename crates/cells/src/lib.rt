@@ -15,6 +15,11 @@ ghost use Rattle.cells.specs.Finish.{Fillable, PostAsks, Posted};
 use marks::{MARKED, Marking};
 use search::Unvisited;
 
+// The most payees and users of a table.
+const PAYEES: usize = 257;
+
+const USERS: usize = 512;
+
 // The cent that a cell's mark adds to its floor.
 fn cent(mark: u64) -> i64
     requires { mark ≤ 2 }
@@ -42,13 +47,13 @@ pub fn fill(vc: &[i64], vd: &[i64], cells: &mut [i64], work: &mut [u64])
 {
     let m = vc.len();
     let n = vd.len();
-    let mut debits = [0u64; 512];
-    let mut lacks = [0u64; 257];
-    let mut wants = [0u64; 512];
-    let mut lefts = [0u64; 512];
-    let mut counts = [0u64; 258];
-    let mut rows = [false; 257];
-    let mut columns = [false; 512];
+    let mut debits = [0; USERS];
+    let mut lacks = [0; PAYEES];
+    let mut wants = [0; USERS];
+    let mut lefts = [0; USERS];
+    let mut counts = [0; PAYEES + 1];
+    let mut rows = [false; PAYEES];
+    let mut columns = [false; USERS];
     let debits = &mut debits[..n];
     let w = floors::naturals(vd, debits);
     let mut table = Marking {

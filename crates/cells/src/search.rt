@@ -17,16 +17,13 @@ impl Marking<'_> {
         requires { IsShape self.now unvisited.now × (i < length unvisited.now.rows.now) }
         ensures { FreeIn self.now unvisited.now i result }
     {
-        let marks = &*self.marks;
-        let wants = &*self.wants;
-        let columns = &*unvisited.columns;
-        let n = columns.len();
+        let n = unvisited.columns.len();
         let mut best = None;
         let mut most = 0;
-        for j in 0..n {
-            if wants[j] > most && marks[i * n + j] == BROKEN && columns[j] {
+        for (j, &want) in self.wants.iter().enumerate() {
+            if want > most && self.marks[i * n + j] == BROKEN && unvisited.columns[j] {
                 best = Some(j);
-                most = wants[j];
+                most = want;
             }
         }
         best

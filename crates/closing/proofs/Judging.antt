@@ -20,7 +20,10 @@ use Rattle.charges.specs.Scan.{SumsOf}
 use Rattle.closing.specs.Judged.{Begun, JudgesBy, Weighable, Weighs, Judges}
 
 -- refused, with nothing found: what `?` hands on
-pub stops : {T : Type 0} {Found : T → Type 0} {v : Verdict} (e : Refusal) (r : Result T Refusal) → IsErrAnd r (λ (d : Refusal). d ≡ e) → refused_by e ≡ v
+pub stops :
+    {T : Type 0} {Found : T → Type 0} {v : Verdict} (e : Refusal) (r : Result T Refusal)
+    → IsErrAnd r (λ (d : Refusal). d ≡ e)
+    → refused_by e ≡ v
     → JudgesBy v Found r
 stops e r h k = let p = err_from_is_err_and r h in rw p.1 (record { verdict = ap refused_by p.2 ∙ k; found = tt })
 
@@ -47,7 +50,7 @@ module _ {g : Ledger} {held : List ℤ} {l : Lines} {first : Result (Unit {0}) R
 
     -- ---- and 3 to 7
     module _ (three : state_tests st l.line ≡ accepted) (five : line_tests l ≡ accepted) where
-      pub lines_tested : Tested st l
+      lines_tested : Tested st l
       lines_tested = record {
         counts = counts_passed.0;
         state = three;

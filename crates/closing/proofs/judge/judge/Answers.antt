@@ -25,16 +25,22 @@ pub slice_bounds-weighed-end : goal.slice_bounds-weighed-end
 slice_bounds-weighed-end c = sym (length-take-le _ _ (held_reach c.requires.1 (ap verdict_of c.in_ok-first.was)))
 
 pub weighed-requires : goal.weighed-requires
-weighed-requires c = (_, weighable c.requires.1 (ap verdict_of c.in_ok-first.was) (sym c.in_ok-state_verdict.ensures) (sym c.in_ok-sums.ensures.verdict) c.in_ok-sums.ensures.found)
+weighed-requires c =
+    let one = ap verdict_of c.in_ok-first.was in
+    (_, weighable c.requires.1 one (sym c.in_ok-state_verdict.ensures) (sym c.in_ok-sums.ensures.verdict) c.in_ok-sums.ensures.found)
 
 pub returns-in_err-bills : goal.returns-in_err-bills
 returns-in_err-bills c short b =
-    let w = weighable b (ap verdict_of c.in_ok-first.was) (sym c.in_ok-state_verdict.ensures) (sym c.in_ok-sums.ensures.verdict) c.in_ok-sums.ensures.found in
+    let one = ap verdict_of c.in_ok-first.was in
+    let three = sym c.in_ok-state_verdict.ensures in
+    let five = sym c.in_ok-sums.ensures.verdict in
     stops _ c.from_residual-in_err-bills.result c.from_residual-in_err-bills.ensures.1
-    ((c.in_err-bills.ensures _ w).verdict ∙ sums_left b (ap verdict_of c.in_ok-first.was) (sym c.in_ok-state_verdict.ensures) (sym c.in_ok-sums.ensures.verdict))
+    ((c.in_err-bills.ensures _ (weighable b one three five c.in_ok-sums.ensures.found)).verdict ∙ sums_left b one three five)
 
 pub returns : goal.returns
 returns c short b =
     let one = ap verdict_of c.in_ok-first.was in
-    let w = weighable b one (sym c.in_ok-state_verdict.ensures) (sym c.in_ok-sums.ensures.verdict) c.in_ok-sums.ensures.found in
-    finds b one (sym c.in_ok-state_verdict.ensures) (sym c.in_ok-sums.ensures.verdict) c.in_ok-sums.ensures.found (c.in_ok-bills.ensures _ w)
+    let three = sym c.in_ok-state_verdict.ensures in
+    let five = sym c.in_ok-sums.ensures.verdict in
+    let found = c.in_ok-sums.ensures.found in
+    finds b one three five found (c.in_ok-bills.ensures _ (weighable b one three five found))

@@ -125,7 +125,8 @@ visit_row-visit_column-requires t c =
         still_shape c.requires.0 I.0,
         h,
         c.if-unvisited-j.true,
-        row_wants i l.j I.1 c.loop-j-test.true (rw c.in_default.is at c.most_wanting.ensures) c.if-self-i-eq-BROKEN.true (opened_on l.unvisited.columns.now l.j h c.if-unvisited-j.true),
+        row_wants i l.j I.1 c.loop-j-test.true (rw c.in_default.is at c.most_wanting.ensures) c.if-self-i-eq-BROKEN.true
+            (opened_on l.unvisited.columns.now l.j h c.if-unvisited-j.true),
       ),
     )
 

@@ -5,4 +5,4 @@ use Rattle.cells.proofs.marks.Marking.most_wanting.Given as goal
 
 abbrev pub invariant-loop-j : goal.invariant-loop-j
 invariant-loop-j l =
-    FreeInv (length l.columns) l.marks l.wants (opened l.columns) l.i l.best l.most l.j
+    FreeInv (length l.unvisited.columns.now) l.self.marks.now l.self.wants.now (opened l.unvisited.columns.now) l.i l.best l.most l.j

@@ -1,13 +1,11 @@
-use Rattle.std.proofs.Common.{length}
+use Rattle.std.proofs.Common.{◌≡◌, length}
 use Rattle.cells.specs.Place.{Going}
-use Rattle.cells.specs.Unvisited.{opened}
 use Rattle.cells.proofs.marks.Marking.place.Given as goal
 
 abbrev pub invariant-loop-i : goal.invariant-loop-i
 invariant-loop-i l =
     let t = l.initial.self in
     let o = l.initial.unvisited in
-    Going (length o.rows.now) (length o.columns.now) t.marks.now t.lacks.now t.wants.now l.self.marks.now l.self.lacks.now l.self.wants.now
-    (opened l.unvisited.rows.now)
-    (opened l.unvisited.columns.now)
-    l.i
+    (length l.unvisited.rows.now ≡ length o.rows.now)
+    × (length l.unvisited.columns.now ≡ length o.columns.now)
+    × Going (length o.rows.now) (length o.columns.now) t.marks.now t.lacks.now t.wants.now l.self.marks.now l.self.lacks.now l.self.wants.now l.i

@@ -3,17 +3,17 @@ use Rattle.std.proofs.Common.{arith}
 use Rattle.cells.specs.Marks.{below}
 use Rattle.cells.specs.Kept.{kept_then, kept_mark}
 use Rattle.cells.proofs.marks.Marking.take.Goals as goal
-use Rattle.cells.proofs.marks.Marking.take.Goals.{then-wants-j+then-marks-i-eq-BROKEN+then-lacks-i-gt0, else-wants-j}
+use Rattle.cells.proofs.marks.Marking.take.Goals.{then-self-j+then-self-i-eq-BROKEN+then-self-i-gt0, else-self-j}
 
 pub loop-j-preserved : goal.loop-j-preserved
 loop-j-preserved c =
     let k = c.loop-j.invariant in
-    elim c.if-wants-j.branch [
-      | then-wants-j+then-marks-i-eq-BROKEN+then-lacks-i-gt0 w ↦
-          rw (w.marks-is, w.lacks-is, w.wants-is)
+    elim c.if-self-j.branch [
+      | then-self-j+then-self-i-eq-BROKEN+then-self-i-gt0 w ↦
+          rw w.self-is
           (kept_then k
           (kept_mark _ _ _ c.args.i c.loop-j.j c.requires.1 c.loop-j-test.true
           (omega (arith, below c.requires.1 c.loop-j-test.true, c.requires.0.cells, k.cells)) (omega (arith, k.tall))
-          (omega (arith, k.wide)) w.if-marks-i-eq-BROKEN.true w.if-lacks-i-gt0.true (omega (arith, w.if-wants-j.true, c.requires.2))))
-      | else-wants-j w ↦ rw (w.marks-is, w.lacks-is, w.wants-is) k
+          (omega (arith, k.wide)) w.if-self-i-eq-BROKEN.true w.if-self-i-gt0.true (omega (arith, w.if-self-j.true, c.requires.2))))
+      | else-self-j w ↦ rw w.self-is k
     ]
