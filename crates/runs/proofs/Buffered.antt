@@ -79,5 +79,9 @@ module _ (before after : Reader) (text : after.text ≡ before.text) where
     on_refused (refused n q) e g at = (g.answer, text, at)
 
     -- a refused one leaves the reader where it was
-    pub next_refused : (e : Refusal) → Reads before.text.now before.at ags us ps ags' us' ps' (Err e) → after.at ≡ before.at → ReadsNext (next_file before) (Err e) before after
+    pub next_refused :
+        (e : Refusal)
+        → Reads before.text.now before.at ags us ps ags' us' ps' (Err e)
+        → after.at ≡ before.at
+        → ReadsNext (next_file before) (Err e) before after
     next_refused e g = on_refused (next_file before) e (rw (a, u, p) at g)

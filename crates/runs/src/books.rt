@@ -10,6 +10,7 @@ const CELLS: usize = (AGENTS + 1) * USERS;
 
 const WORK: usize = 2 * CELLS + 4 * (AGENTS + 1 + USERS);
 
+// Arrays, since nothing is allocated.
 #[derive(Drop)]
 pub(crate) struct Books {
     pub ledger: Ledger,

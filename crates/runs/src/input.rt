@@ -14,6 +14,7 @@ pub(crate) fn read_all<'a, R: io::Input>(
 ) -> io::Result<Option<&'a [u8]>> {
     let mut reader = rt.reader();
     let mut n = 0;
+    // no range counts this: each turn goes on by what was read
     while n < buffer.len() {
         match reader.read(&mut buffer[n..])? {
             0 => return Ok(Some(&buffer[..n])),

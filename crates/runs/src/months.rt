@@ -24,6 +24,7 @@ pub(crate) struct Month<'a> {
     ghost few_points: { length lines.points.now ≤ POINTS },
 }
 
+// Room for the lines of a file.
 #[derive(Drop)]
 pub(crate) struct Lines {
     agents: [Agent; AGENTS],
