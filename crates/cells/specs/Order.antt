@@ -121,7 +121,7 @@ module _ {vc vd : List ℤ} {debits : List ℕ} {w : ℕ} (B : Balanced vc debit
 placed_led : {m n : ℕ} {xs wr wc ys zs : List ℕ} → Placed m n xs wr wc ys → Led m n ys zs → Placed m n xs wr wc zs
 placed_led P D = record { rows = λ i h. D.rows i h ∙ P.rows i h; cols = λ j h. D.cols j h ∙ P.cols j h; kind = kind_then P.kind D.kind }
 
--- ---- all of `lay`, of the largest table
+-- ---- all of `fill`, of the largest table
 module _ {vc vd : List ℤ} {debits debits' : List ℕ} {w : ℕ} (A : Fillable vc vd) (e : length debits ≡ length vd) (N
     : Naturals vd debits debits' (length vd) w) {cells : List ℤ} {marks lacks wants marks' lacks' wants' ys : List ℕ} (F
     : Floored vc debits' w cells marks lacks wants) (l : length cells ≡ length vc * length vd) {m n : ℕ} (a : m ≡ length vc) (b : n ≡ length vd) (K

@@ -1,6 +1,5 @@
 -- What the code cites: `Closing` is the promise of `close` from what was judged and written.
 pub mod Closing
--- Opening: `Opening` has its ways out.
 -- Demand 1: `Demand1` states the theorem over the checked contracts of every call.
 -- Demand 3: `Demand` states the theorem over the checked contracts of `open` and `close`; `Learnt` is what the contract of `close` tells
 -- a caller; `Pins` writes the contracts out; `Some` shows that the theorem is not empty; `Machine` takes it to the machine's runs.
