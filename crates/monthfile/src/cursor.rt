@@ -1,9 +1,9 @@
-// A place in a text, from which the text is scanned or read on.
+// A place in a text, from which the text is scanned or read on. What the scanner calls is inlined, for speed.
 ghost use Rattle.std.specs.Prelude.{◌≡◌, ◌+◌, ◌≤◌, min, take, drop, length, slice_get, if◌then◌else◌};
 ghost use Rattle.std.specs.List.{prefix_len};
 ghost use Rattle.format.specs.Bytes.{is_digit};
 
-#[derive(Clone, Copy)]
+#[derive(Drop)]
 pub(crate) struct Cursor<'a> {
     pub text: &'a [u8],
     pub at: usize,
@@ -11,6 +11,7 @@ pub(crate) struct Cursor<'a> {
 }
 
 impl<'a> Cursor<'a> {
+    ghost use Rattle.format.specs.Values.{line_here};
     ghost use Rattle.monthfile.specs.Cursor.{rest, byte_here, digits_here, Passed};
 
     // At a position of a text; a position past the end counts as the end.
@@ -29,6 +30,13 @@ impl<'a> Cursor<'a> {
         ensures { result ≡ slice_get (rest self.now) 0 }
     {
         self.text.get(self.at).copied()
+    }
+
+    // Whether a line of values begins here.
+    pub(crate) fn line_here(&self) -> bool
+        ensures { result ≡ line_here (rest self.now) }
+    {
+        matches!(self.byte(), Some(b'-' | b'0'..=b'9'))
     }
 
     // Passes this byte, if it is here.
