@@ -52,14 +52,14 @@ impl<'a> Cursor<'a> {
         here
     }
 
-    // Passes the digits here, at most so many.
+    // Passes the digits here, at most so many, which are answered.
     #[inline(always)]
     pub(crate) fn digits(&mut self, most: usize) -> &'a [u8]
         ensures digits { result.now ≡ take (digits_here most (rest self.old)) (rest self.old) }
         ensures passed { Passed self.old self.new (digits_here most (rest self.old)) }
     {
         let here = &self.text[self.at..];
-        let count = count_digits(here, most);
+        let count = count_digits(&here[..here.len().min(most)]);
         self.at += count;
         &here[..count]
     }
@@ -72,14 +72,11 @@ impl<'a> Cursor<'a> {
     }
 }
 
-// How many digits a text begins with, at most so many.
+// How many digits a text begins with.
 #[inline(always)]
-fn count_digits(text: &[u8], most: usize) -> usize
-    ensures count { result ≡ prefix_len is_digit (take most text.now) }
+fn count_digits(text: &[u8]) -> usize
+    ensures count { result ≡ prefix_len is_digit text.now }
     ensures within { result ≤ length text.now }
 {
-    text.iter()
-        .take(most)
-        .take_while(|b| b.is_ascii_digit())
-        .count()
+    text.iter().take_while(|b| b.is_ascii_digit()).count()
 }
