@@ -16,9 +16,6 @@ module _ (t : List ℕ) where
   abbrev pub Same : ℕ → Type 0
   Same i = judge (start free) 0 t ≡ judge (start free) (min i (length t)) (drop i t)
 
-  pub same_start : Same 0
-  same_start = let e : 0 ≡ min 0 (length t) = omega arith in ap (λ (k : ℕ). judge (start free) k t) e
-
   -- slices as long as the text
   abbrev pub long : Slices
   long = slices (length t) (length t) (length t)

@@ -99,6 +99,7 @@ module _ (t : List ℕ) (from : ℕ) (agents : List Agent) (users : List User) (
   unfolding reading
   refused x r v h = rw v (by x h (file_of (read_blocks (blocks room) (drop from t)).got))
     where
-      by : (x : Fault) → ((f : File) → Answers (answer f (Err x)) (Err r)) → (f : File) → Gives (answer f (Err x)) agents users points agents users points (Err r)
+      by : (x : Fault) → ((f : File) → Answers (answer f (Err x)) (Err r))
+          → (f : File) → Gives (answer f (Err x)) agents users points agents users points (Err r)
       by (Faulty n) h f = record { answer = h f; agents_are = refl; users_are = refl; points_are = refl }
       by (Full n) h f = record { answer = h f; agents_are = refl; users_are = refl; points_are = refl }

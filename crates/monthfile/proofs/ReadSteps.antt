@@ -41,7 +41,11 @@ pub record Row (c d : Cursor) (n i : ℕ) (row : List ℤ) : Type 0 where
   pub size : length row ≡ n
 
 module _ {c d : Cursor} {n i : ℕ} {row : List ℤ} (v : Row c d n i row) where
-  pub row_more : {e : Cursor} {x : ℤ} (f : Cursor) → i < n → GotAt (read_value (rest d)) x e → rest f ≡ past (n - (i + 1)) (rest e) → Row c f n (i + 1) (set row i x)
+  pub row_more : {e : Cursor} {x : ℤ} (f : Cursor)
+      → i < n
+      → GotAt (read_value (rest d)) x e
+      → rest f ≡ past (n - (i + 1)) (rest e)
+      → Row c f n (i + 1) (set row i x)
   row_more {x = x} f h g p =
       let m : ℕ = n - (i + 1) in
       let r = read_line m (rest f) in

@@ -1,5 +1,5 @@
 // The file check (paper 01, "The month file", last paragraph).
-ghost use Rattle.std.specs.Prelude.{◌≡◌, ◌≤◌, length, pos, Err};
+ghost use Rattle.std.specs.Prelude.{◌≡◌, pos, Err};
 ghost use Rattle.format.specs.Machine.{check_of};
 ghost use Rattle.monthfile.specs.Checked.{seen, place};
 
@@ -23,12 +23,17 @@ impl From<Fault> for NotFiles {
     }
 }
 
-// Files on end. No slice is too short that is as long as the text.
-fn files(text: &[u8]) -> Result<(), NotFiles>
-    requires { length text.now ≤ 1_000_000_000_000_000 }
+// A text of at most so many bytes is checked.
+const LONGEST: usize = 1_000_000_000_000_000;
+
+// Whether a text is one or more files on end. No slice is too short for their lines that is as long as the text.
+pub fn file_check(text: &[u8]) -> Result<(), NotFiles>
     ensures { seen result ≡ check_of text.now }
 {
     let most = text.len();
+    if LONGEST < most {
+        return Err(NotFiles::TooLong);
+    }
     let room = Room {
         agents: most,
         users: most,
@@ -41,14 +46,4 @@ fn files(text: &[u8]) -> Result<(), NotFiles>
             return Ok(());
         }
     }
-}
-
-// Whether a text of at most 10^15 bytes is one or more files on end.
-pub fn file_check(text: &[u8]) -> Result<(), NotFiles>
-    ensures { seen result ≡ check_of text.now }
-{
-    if 1_000_000_000_000_000 < text.len() {
-        return Err(NotFiles::TooLong);
-    }
-    files(text)
 }

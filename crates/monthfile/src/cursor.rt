@@ -1,9 +1,9 @@
-// A place in a text, from which the text is scanned or read on.
+// A place in a text, from which the text is scanned or read on. What the scanner calls is inlined, for speed.
 ghost use Rattle.std.specs.Prelude.{◌≡◌, ◌+◌, ◌≤◌, min, take, drop, length, slice_get, if◌then◌else◌};
 ghost use Rattle.std.specs.List.{prefix_len};
 ghost use Rattle.format.specs.Bytes.{is_digit};
 
-#[derive(Clone, Copy)]
+#[derive(Drop)]
 pub(crate) struct Cursor<'a> {
     pub text: &'a [u8],
     pub at: usize,
@@ -11,6 +11,7 @@ pub(crate) struct Cursor<'a> {
 }
 
 impl<'a> Cursor<'a> {
+    ghost use Rattle.format.specs.Values.{line_here};
     ghost use Rattle.monthfile.specs.Cursor.{rest, byte_here, digits_here, Passed};
 
     // At a position of a text; a position past the end counts as the end.
@@ -31,6 +32,13 @@ impl<'a> Cursor<'a> {
         self.text.get(self.at).copied()
     }
 
+    // Whether a line of values begins here.
+    pub(crate) fn line_here(&self) -> bool
+        ensures { result ≡ line_here (rest self.now) }
+    {
+        matches!(self.byte(), Some(b'-' | b'0'..=b'9'))
+    }
+
     // Passes this byte, if it is here.
     #[inline(always)]
     pub(crate) fn eat(&mut self, byte: u8) -> bool
@@ -44,14 +52,14 @@ impl<'a> Cursor<'a> {
         here
     }
 
-    // Passes the digits here, at most so many.
+    // Passes the digits here, at most so many, which are answered.
     #[inline(always)]
     pub(crate) fn digits(&mut self, most: usize) -> &'a [u8]
         ensures digits { result.now ≡ take (digits_here most (rest self.old)) (rest self.old) }
         ensures passed { Passed self.old self.new (digits_here most (rest self.old)) }
     {
         let here = &self.text[self.at..];
-        let count = count_digits(here, most);
+        let count = count_digits(&here[..here.len().min(most)]);
         self.at += count;
         &here[..count]
     }
@@ -64,14 +72,11 @@ impl<'a> Cursor<'a> {
     }
 }
 
-// How many digits a text begins with, at most so many.
+// How many digits a text begins with.
 #[inline(always)]
-fn count_digits(text: &[u8], most: usize) -> usize
-    ensures count { result ≡ prefix_len is_digit (take most text.now) }
+fn count_digits(text: &[u8]) -> usize
+    ensures count { result ≡ prefix_len is_digit text.now }
     ensures within { result ≤ length text.now }
 {
-    text.iter()
-        .take(most)
-        .take_while(|b| b.is_ascii_digit())
-        .count()
+    text.iter().take_while(|b| b.is_ascii_digit()).count()
 }

@@ -3,7 +3,7 @@ use crate::points::read_at;
 use crate::reading::Header;
 use rules::{Agent, Point, Refusal, User};
 
-#[derive(Clone, Copy)]
+#[derive(Clone, Debug, Drop)]
 pub struct Reader<'a> {
     pub text: &'a [u8],
     pub at: usize,

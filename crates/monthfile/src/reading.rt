@@ -47,7 +47,7 @@ impl Cursor<'_> {
         self.skip(1);
     }
 
-    // A line of values, each with the comma or the line's end after it.
+    // A line of values, each with the comma or the line's end after it; an array can hold so many.
     fn read_line<const N: usize>(&mut self) -> [i64; N]
         requires { N < 2 ^ 60 }
         ensures { GotAt (read_line N (rest self.old)) result self.new }

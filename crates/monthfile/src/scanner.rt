@@ -8,6 +8,8 @@ use crate::cursor::Cursor;
 use crate::names::{AGENTS, MONTH, POINTS, USERS};
 use format::Fault;
 
+// Each step is inlined: with text and place in registers the file check is as fast as one written by hand.
+
 // How many lines the slices lent for them take.
 #[derive(Clone, Copy)]
 pub(crate) struct Room {
@@ -20,7 +22,6 @@ impl Cursor<'_> {
     ghost use Rattle.std.specs.Prelude.{◌≡◌, ℕ, []};
     ghost use Rattle.format.specs.Blocks.{up_to, slices};
     ghost use Rattle.format.specs.Machine.{fresh, signed, nought, at, value as in_value, start};
-    ghost use Rattle.format.specs.Values.{line_here};
     ghost use Rattle.monthfile.specs.Cursor.{rest, lead_here, file_ends};
     ghost use Rattle.monthfile.specs.Passing.{Passes, Takes, at_end, at_names, at_block, several};
 
@@ -86,13 +87,6 @@ impl Cursor<'_> {
         self.scan_end()
     }
 
-    // Whether a line of values begins here.
-    pub(crate) fn line_here(&self) -> bool
-        ensures { result ≡ line_here (rest self.now) }
-    {
-        matches!(self.byte(), Some(b'-' | b'0'..=b'9'))
-    }
-
     // Lines of a block, as many as there are; Full where one begins that there is no room for.
     #[inline(always)]
     fn scan_lines(&mut self, commas: usize, room: usize) -> Result<(), Fault>
@@ -134,11 +128,11 @@ impl Cursor<'_> {
     fn scan_blocks(&mut self, room: Room) -> Result<(), Fault>
         ensures { Passes self.old (λ f. start (slices room.agents room.users room.points)) self.new (λ f. at []) result }
     {
-        self.scan_names(&MONTH)?;
+        self.scan_names(MONTH)?;
         self.scan_line(1)?;
-        self.scan_block(&AGENTS, 6, room.agents)?;
-        self.scan_block(&USERS, 3, room.users)?;
-        self.scan_block(&POINTS, 8, room.points)
+        self.scan_block(AGENTS, 6, room.agents)?;
+        self.scan_block(USERS, 3, room.users)?;
+        self.scan_block(POINTS, 8, room.points)
     }
 
     // Whether a file may end here: with the text, or before an `m`.

@@ -26,7 +26,8 @@ pub loop-digit-preserved : goal.loop-digit-preserved
 loop-digit-preserved c =
     let e = (digits_are 18 _ (rest c.args.self.now) c.digits-digit-items.ensures.digits).each c.loop-digit.digit-index (omega arith) in
     record {
-      number = ap (λ (x : ℕ). c.loop-digit.number * 10 + x) c.from.ensures ∙ one_more c.digits-digit-items.result.now _ c.loop-digit.digit-index (omega arith) c.loop-digit.invariant.number;
+      number = ap (λ (x : ℕ). c.loop-digit.number * 10 + x) c.from.ensures
+          ∙ one_more c.digits-digit-items.result.now _ c.loop-digit.digit-index (omega arith) c.loop-digit.invariant.number;
       below = more_below _ _ _ c.loop-digit.invariant.below (omega (arith, e.low, e.high));
     }
 

@@ -22,7 +22,8 @@ loop-preserved c =
 
 pub returns-in_err-scan_value-2 : goal.returns-in_err-scan_value-2
 returns-in_err-scan_value-2 c =
-    handed _ _ _ (later (the_last c.loop.counter c.loop.invariant (omega arith)) (c.in_err-scan_value-2.ensures 0)) c.from_residual-in_err-scan_value-2.ensures.1
+    let l = later (the_last c.loop.counter c.loop.invariant (omega arith)) (c.in_err-scan_value-2.ensures 0) in
+    handed _ _ _ l c.from_residual-in_err-scan_value-2.ensures.1
 
 pub returns : goal.returns
 returns c =
