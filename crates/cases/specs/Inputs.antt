@@ -6,7 +6,8 @@ use Rattle.rules.specs.Calendar.{cycle_month, settled_to}
 use Rattle.rules.specs.Credits.{VMPA}
 use Rattle.rules.specs.Lines.{Lines, month_lines, agent_of, user_of, point_of}
 use Rattle.rules.specs.Table.{cell_at}
-use Rattle.rules.specs.Refusals.{Lengths, cells_needed, work_needed}
+use Rattle.rules.specs.declared.Lengths.{Lengths}
+use Rattle.rules.specs.Refusals.{cells_needed, work_needed}
 use Rattle.rules.specs.Tally.{Fed}
 
 -- amounts as the paper writes them

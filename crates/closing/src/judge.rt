@@ -10,7 +10,7 @@ ghost use Rattle.closing.specs.Judged.{Begun, Weighable, Scans, Weighs, Judges};
 
 use charges::month::Bills;
 use charges::scan::Sums;
-use rules::{Ledger, MonthLine, MonthLines, Refusal};
+use rules::{MonthLine, MonthLines, Refusal, Standing};
 
 // What is found of a month that breaks no limit: the sums of its points by user, and every user's amounts.
 #[derive(Clone, Copy)]
@@ -21,13 +21,13 @@ pub struct Judged {
 
 // 3 and 4: the month, then the held credits, the first entry for each user.
 #[tactic(auto, unfolding(rules::specs::Refusals::state_tests))]
-fn state_verdict(ledger: Ledger, held: &[i64], line: MonthLine) -> Result<(), Refusal>
-    requires { ledger.users ≤ length held.now }
-    ensures { verdict_of result ≡ state_tests (state_of ledger held.now) line }
+fn state_verdict(standing: Standing, line: MonthLine) -> Result<(), Refusal>
+    requires { standing.ledger.users ≤ length standing.held.now }
+    ensures { verdict_of result ≡ state_tests (state_of standing.entry.ledger standing.entry.held.now) line }
 {
-    refusals::months::month_verdict(ledger.month, line.month)?;
-    let n = ledger.users as usize;
-    refusals::lines::credits_verdict(&held[..n])
+    refusals::months::month_verdict(standing.ledger.month, line.month)?;
+    let n = standing.ledger.users as usize;
+    refusals::lines::credits_verdict(&standing.held[..n])
 }
 
 // 5 to 7, and the sums of the points.
@@ -57,18 +57,17 @@ fn weighed(held: &[i64], month: MonthLines, sums: &Sums) -> Result<Bills, Refusa
 // call is lent: closing and statement are lent different slices.
 pub fn judge(
     first: Result<(), Refusal>,
-    ledger: Ledger,
-    held: &[i64],
+    standing: Standing,
     month: MonthLines,
 ) -> Result<Judged, Refusal>
-    requires { (short : Verdict) × Begun ledger held.now (lines_of month) first short }
-    ensures { (short : Verdict) → Begun ledger held.now (lines_of month.entry) first short
-        → Judges ledger held.now short (lines_of month.entry) result }
+    requires { (short : Verdict) × Begun standing.ledger standing.held.now (lines_of month) first short }
+    ensures { (short : Verdict) → Begun standing.entry.ledger standing.entry.held.now (lines_of month.entry) first short
+        → Judges standing.entry.ledger standing.entry.held.now short (lines_of month.entry) result }
 {
     first?;
-    state_verdict(ledger, held, month.line)?;
+    state_verdict(standing, month.line)?;
     let sums = lines_verdict(month)?;
-    let n = ledger.users as usize;
-    let bills = weighed(&held[..n], month, &sums)?;
+    let n = standing.ledger.users as usize;
+    let bills = weighed(&standing.held[..n], month, &sums)?;
     Ok(Judged { sums, bills })
 }

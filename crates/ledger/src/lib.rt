@@ -4,13 +4,14 @@
 ghost use Rattle.rules.specs.Lines.{lines_of};
 ghost use Rattle.rules.specs.Calls.{Opens, Closes};
 
-use rules::{Ledger, MonthLines, Outcome};
+use refusals::counts::{Counts, closing_verdict, opening_verdict};
+use rules::{Ledger, Lengths, MonthLines, Outcome, Standing};
 
 // Opens a ledger for these counts: the first entry per user becomes 0, entries beyond stay. A refused opening changes nothing.
 pub fn open(users: u64, agents: u64, held: &mut [i64]) -> Outcome
     ensures { Opens users agents held.old result held.new }
 {
-    if let Err(refusal) = refusals::counts::opening_verdict(users, agents, held.len() as u64) {
+    if let Err(refusal) = opening_verdict(users, agents, held.len() as u64) {
         return Outcome {
             answer: Err(refusal),
             ledger: Ledger::default(),
@@ -38,14 +39,13 @@ pub fn close(
     ensures { Closes ledger held.old (lines_of month.entry) cells.old work.old
         result held.new cells.new work.new }
 {
-    let first = refusals::counts::closing_verdict(
-        ledger,
-        month,
-        held.len() as u64,
-        cells.len() as u64,
-        work.len() as u64,
-    );
-    match closing::judge::judge(first, ledger, held, month) {
+    let lengths = Lengths {
+        held: held.len() as u64,
+        cells: cells.len() as u64,
+        work: work.len() as u64,
+    };
+    let first = closing_verdict(ledger, Counts::of(month), lengths);
+    match closing::judge::judge(first, Standing { ledger, held }, month) {
         Err(refusal) => Outcome {
             answer: Err(refusal),
             ledger,

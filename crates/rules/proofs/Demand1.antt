@@ -13,7 +13,8 @@ use Rattle.rules.specs.declared.outcomes.Refusal.{Refusal}
 use Rattle.rules.specs.Verdict.{Verdict, accepted, refused}
 use Rattle.rules.specs.Charges.{VDs, new_credits}
 use Rattle.rules.specs.Credits.{VCs}
-use Rattle.rules.specs.Refusals.{Lengths, cells_needed, short_slices, refusal, opening_refusal}
+use Rattle.rules.specs.declared.Lengths.{Lengths}
+use Rattle.rules.specs.Refusals.{cells_needed, short_slices, refusal, opening_refusal}
 use Rattle.rules.specs.State.{State}
 use Rattle.rules.specs.Limits.{Limit}
 use Rattle.rules.specs.Answers.{verdict_of}

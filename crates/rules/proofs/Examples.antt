@@ -17,7 +17,8 @@ use Rattle.rules.specs.Lines.{distributor, consumer, generator, Lines, agent_of,
 use Rattle.rules.specs.Charges.{half_up, or_zero, use_charge, allowance, excess, overrun, of_user, EUSTs, overrun_sums, VMEs, pv_total, CPVs, ns, VDs}
 use Rattle.rules.specs.Credits.{VMST}
 use Rattle.rules.specs.State.{State}
-use Rattle.rules.specs.Refusals.{Lengths, bad_counts, short_slices, bad_month, count_tests, state_tests}
+use Rattle.rules.specs.declared.Lengths.{Lengths}
+use Rattle.rules.specs.Refusals.{bad_counts, short_slices, bad_month, count_tests, state_tests}
 use Rattle.rules.specs.Refusals.{lines_before_points, line_tests, sum_tests, refusal, opening_refusal}
 
 -- ---- small months

@@ -19,7 +19,8 @@ use Rattle.rules.specs.Lines.{Lines, agent_of, point_of, bad_amount}
 use Rattle.rules.specs.State.{State}
 use Rattle.rules.specs.Charges.{use_charge, pv_total, EUSTs, ns, VDs}
 use Rattle.rules.specs.Credits.{pbs}
-use Rattle.rules.specs.Refusals.{Lengths, bad_counts, short_slices, bad_month, credit_test, agent_test, user_test, point_test}
+use Rattle.rules.specs.declared.Lengths.{Lengths}
+use Rattle.rules.specs.Refusals.{bad_counts, short_slices, bad_month, credit_test, agent_test, user_test, point_test}
 use Rattle.rules.specs.Refusals.{count_tests, state_tests, lines_before_points, line_tests, debit_test, sum_tests, refusal, opening_refusal}
 use Rattle.rules.specs.Limits.{Limit, Each, AgentFits, opening_limits}
 use Rattle.rules.specs.Limits.{closing_rooms, credit_limit, agent_limit, user_limit, point_limits, month_limits, closing_limits}

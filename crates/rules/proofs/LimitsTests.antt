@@ -19,7 +19,8 @@ use Rattle.rules.specs.declared.Agent.{Agent}
 use Rattle.rules.specs.declared.User.{User}
 use Rattle.rules.specs.Lines.{Lines, generator, distributor, non_zero, bad_agent, bad_user, bad_point, unfit_point}
 use Rattle.rules.specs.State.{State}
-use Rattle.rules.specs.Refusals.{Lengths, bad_users, bad_agents, bad_counts, short_slices, bad_month, credit_test, agent_test, user_test, point_test}
+use Rattle.rules.specs.declared.Lengths.{Lengths}
+use Rattle.rules.specs.Refusals.{bad_users, bad_agents, bad_counts, short_slices, bad_month, credit_test, agent_test, user_test, point_test}
 use Rattle.rules.specs.Limits.{Month, AgentFits, UserFits, PointFits, KindFits, CountsFit}
 use Rattle.rules.specs.Limits.{CountsAgree, closing_rooms, Later, credit_limit, agent_limit, user_limit, point_limits}
 use Rattle.rules.proofs.Tests.{and_false}

@@ -21,7 +21,8 @@ use Rattle.rules.specs.Lines.{Lines, agent_of, user_of, point_of}
 use Rattle.rules.specs.Charges.{pv_total, EUSTs, VDs}
 use Rattle.rules.specs.Credits.{pbs}
 use Rattle.rules.specs.State.{State}
-use Rattle.rules.specs.Refusals.{Lengths, bad_counts, cells_needed, work_needed, short_slices, bad_month, credit_test, agent_test, user_test}
+use Rattle.rules.specs.declared.Lengths.{Lengths}
+use Rattle.rules.specs.Refusals.{bad_counts, cells_needed, work_needed, short_slices, bad_month, credit_test, agent_test, user_test}
 use Rattle.rules.specs.Refusals.{point_test, count_tests, state_tests, lines_before_points, line_tests, weight_tests, sum_tests, refusal}
 use Rattle.rules.specs.Tested.{Tested}
 use Rattle.rules.proofs.Tests.{then_accepted, when_accepted, when_then, and_false, each_from_1}

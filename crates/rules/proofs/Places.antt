@@ -16,7 +16,8 @@ use Rattle.rules.specs.Most.{most_amount, most_held}
 use Rattle.rules.specs.Lines.{distributor, consumer, generator, agent_of, user_of, point_of, kind_of, bad_agent, bad_user, bad_point, unfit_point}
 use Rattle.rules.specs.Charges.{half_up, or_zero, use_charge, allowance, excess, overrun, of_user, EUSTs, overrun_sums, VMEs, pv_total, CPVs, ns, VDs}
 use Rattle.rules.specs.State.{State}
-use Rattle.rules.specs.Refusals.{Lengths, bad_counts, short_slices, bad_month, count_tests, state_tests, lines_before_points, line_tests, sum_tests, refusal}
+use Rattle.rules.specs.declared.Lengths.{Lengths}
+use Rattle.rules.specs.Refusals.{bad_counts, short_slices, bad_month, count_tests, state_tests, lines_before_points, line_tests, sum_tests, refusal}
 
 -- ---- the month: a distributor, a consumer and a generator, with a point each; user 1's correction is above any compensation
 abbrev Row : Type 0

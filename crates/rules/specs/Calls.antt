@@ -8,7 +8,8 @@ use Rattle.rules.specs.Lines.{Lines}
 use Rattle.rules.specs.Charges.{new_credits}
 use Rattle.rules.specs.Direct.{MonthTable}
 use Rattle.rules.specs.State.{State}
-use Rattle.rules.specs.Refusals.{Lengths, cells_needed, short_slices, refusal, opening_refusal}
+use Rattle.rules.specs.declared.Lengths.{Lengths}
+use Rattle.rules.specs.Refusals.{cells_needed, short_slices, refusal, opening_refusal}
 
 -- what a ledger and a held slice stand for: the credits are the first entry per user
 abbrev pub state_of : Ledger → List ℤ → State

@@ -12,7 +12,8 @@ use Rattle.rules.specs.Ranges.{Amount, Correction, Tariff, Discount, Power, Amou
 use Rattle.rules.specs.State.{State}
 use Rattle.rules.specs.Charges.{pv_total, EUSTs, VDs}
 use Rattle.rules.specs.Credits.{pbs}
-use Rattle.rules.specs.Refusals.{Lengths, cells_needed, work_needed}
+use Rattle.rules.specs.declared.Lengths.{Lengths}
+use Rattle.rules.specs.Refusals.{cells_needed, work_needed}
 
 -- ---- a limit, and limits in order
 -- what it is to keep it; and to break it, so that the call comes back with this number and place

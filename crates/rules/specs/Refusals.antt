@@ -3,6 +3,7 @@ use Rattle.std.specs.Prelude.{ℕ, ◌+◌, ◌*◌, Bool, not, ◌&&◌, ◌||�
 use Rattle.std.specs.Int.Signed.{le_z, lt_z}
 use Rattle.ints.specs.Range.{outside, eq_z}
 use Rattle.ints.specs.Sums.{sum_ℤ}
+use Rattle.rules.specs.declared.Lengths.{Lengths}
 use Rattle.rules.specs.declared.MonthLine.{MonthLine}
 use Rattle.rules.specs.declared.Point.{Point}
 use Rattle.rules.specs.Verdict.{Verdict, when, ◌then◌, each_line}
@@ -14,12 +15,6 @@ use Rattle.rules.specs.Lines.{Lines, kind_of, bad_amount, bad_agent, bad_user, b
 use Rattle.rules.specs.State.{State}
 use Rattle.rules.specs.Charges.{pv_total, EUSTs, VDs}
 use Rattle.rules.specs.Credits.{pbs}
-
--- the lengths of the slices that a closing is lent
-pub record Lengths : Type 0 where
-  pub held : ℕ
-  pub cells : ℕ
-  pub work : ℕ
 
 -- limits of the counts: 1 to 512 users, 1 to 256 agents, at most 1,024 points
 abbrev pub bad_users : ℕ → Bool

@@ -6,7 +6,8 @@ use Rattle.rules.specs.Lines.{Lines}
 use Rattle.rules.specs.Charges.{VMEs, CPVs, new_credits}
 use Rattle.rules.specs.Direct.{ongs, month_credits}
 use Rattle.rules.specs.State.{State}
-use Rattle.rules.specs.Refusals.{Lengths, short_slices, refusal}
+use Rattle.rules.specs.declared.Lengths.{Lengths}
+use Rattle.rules.specs.Refusals.{short_slices, refusal}
 
 -- a closing as the tally is fed it
 pub record Fed : Type 0 where

@@ -8,7 +8,7 @@ pub use kinds::{Kind, NoKind};
 pub use outcomes::{Lent, Outcome, Refusal};
 
 // The month line (paper 01, "A month's lines"): yyyymm, and RMONS.
-#[derive(Clone, Copy)]
+#[derive(Clone, Copy, Default)]
 pub struct MonthLine {
     pub month: i64,
     pub ons: i64,
@@ -16,7 +16,7 @@ pub struct MonthLine {
 
 // An agent's line: its position from 1, base payments, variable parcel, overload addition, overload refund, yearly adjustment, revenue
 // correction.
-#[derive(Clone, Copy)]
+#[derive(Clone, Copy, Default)]
 pub struct Agent {
     pub number: i64,
     pub pb: i64,
@@ -28,7 +28,7 @@ pub struct Agent {
 }
 
 // A user's line: its position from 1, the number of its kind, charge correction, direct charge (paper 02, Q-1).
-#[derive(Clone, Copy)]
+#[derive(Clone, Copy, Default)]
 pub struct User {
     pub number: i64,
     pub kind: i64,
@@ -37,7 +37,7 @@ pub struct User {
 }
 
 // A connection point's line: its user, then peak and off-peak tariff, discount, contracted and verified power.
-#[derive(Clone, Copy)]
+#[derive(Clone, Copy, Default)]
 pub struct Point {
     pub user: i64,
     pub tp: i64,
@@ -59,6 +59,14 @@ pub struct MonthLines<'a> {
     pub points: &'a [Point],
 }
 
+// The lengths of the slices that a closing is lent.
+#[derive(Clone, Copy)]
+pub struct Lengths {
+    pub held: u64,
+    pub cells: u64,
+    pub work: u64,
+}
+
 // The ledger (paper 01, "The ledger"): the counts of an accepted opening and the last closed month, 0 for none. The default is what a
 // refused opening answers.
 #[derive(Clone, Copy, Default)]
@@ -66,4 +74,11 @@ pub struct Ledger {
     pub users: u64,
     pub agents: u64,
     pub month: i64,
+}
+
+// A ledger with the credits that its users hold, to be looked at.
+#[derive(Clone, Copy)]
+pub struct Standing<'a> {
+    pub ledger: Ledger,
+    pub held: &'a [i64],
 }

@@ -5,7 +5,7 @@ ghost use Rattle.rules.specs.Lines.{lines_of};
 use crate::books::Books;
 use crate::months::{AGENTS, Month, POINTS, USERS};
 use crate::payees::{Payee, each_cell};
-use crate::report::Report;
+use crate::report::{Report, Stop};
 use rules::{MonthLines, Refusal};
 use statement::{PayeeRow, PointRow, UserRow};
 use std::{fmt, io};
@@ -17,12 +17,10 @@ impl Report for Amounts {
 
     const COLUMNS: &'static str = "month,item,payee,user,point,cents";
 
-    fn month<R: io::Print>(rt: &R, books: &mut Books, month: Month<'_>) -> io::Result<()> {
+    fn month<R: io::Print>(rt: &R, books: &mut Books, month: Month<'_>) -> Result<(), Stop> {
         let mut rows = Rows::new();
-        match rows.state_and_close(books, month.lines) {
-            Ok(balance) => Printer { rt, month }.amounts(&rows, balance, books),
-            Err(refusal) => rt.println(refusal),
-        }
+        let balance = rows.state_and_close(books, month.lines)?;
+        Ok(Printer { rt, month }.amounts(&rows, balance, books)?)
     }
 }
 

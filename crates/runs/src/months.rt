@@ -5,7 +5,6 @@ ghost use Rattle.format.specs.Reading.{reading};
 ghost use Rattle.runs.specs.declared.months.TheConstants.{AGENTS, USERS, POINTS};
 
 use monthfile::reader::Reader;
-use records::Line;
 use rules::{Agent, MonthLines, Point, Refusal, User};
 
 // What the programs have room for.
@@ -37,9 +36,9 @@ impl Lines {
 
     pub(crate) fn new() -> Lines {
         Lines {
-            agents: [Agent::of([0; 7]); AGENTS],
-            users: [User::of([0; 4]); USERS],
-            points: [Point::of([0; 9]); POINTS],
+            agents: [Agent::default(); AGENTS],
+            users: [User::default(); USERS],
+            points: [Point::default(); POINTS],
         }
     }
 

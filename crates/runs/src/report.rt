@@ -1,7 +1,27 @@
 // What a program is called and what it prints.
 use crate::books::Books;
 use crate::months::Month;
+use rules::Refusal;
 use std::io;
+
+// Why something is not done: refused, or not written.
+#[derive(Drop)]
+pub(crate) enum Stop {
+    Refused(Refusal),
+    Failed(io::Error),
+}
+
+impl From<Refusal> for Stop {
+    fn from(refusal: Refusal) -> Stop {
+        Stop::Refused(refusal)
+    }
+}
+
+impl From<io::Error> for Stop {
+    fn from(error: io::Error) -> Stop {
+        Stop::Failed(error)
+    }
+}
 
 pub(crate) trait Report {
     // In its messages.
@@ -10,6 +30,6 @@ pub(crate) trait Report {
     // The names of its columns.
     const COLUMNS: &'static str;
 
-    // Closes a month and prints what came of it.
-    fn month<R: io::Print>(rt: &R, books: &mut Books, month: Month<'_>) -> io::Result<()>;
+    // Closes a month and prints what it comes to.
+    fn month<R: io::Print>(rt: &R, books: &mut Books, month: Month<'_>) -> Result<(), Stop>;
 }

@@ -2,7 +2,7 @@
 use crate::books::Books;
 use crate::months::Month;
 use crate::payees::{Payee, each_cell};
-use crate::report::Report;
+use crate::report::{Report, Stop};
 use std::io;
 
 pub(crate) struct Table;
@@ -12,11 +12,9 @@ impl Report for Table {
 
     const COLUMNS: &'static str = "month,payee,user,cents";
 
-    fn month<R: io::Print>(rt: &R, books: &mut Books, month: Month<'_>) -> io::Result<()> {
-        match books.close(month.lines) {
-            Ok(()) => print_table(rt, books, month),
-            Err(refusal) => rt.println(refusal),
-        }
+    fn month<R: io::Print>(rt: &R, books: &mut Books, month: Month<'_>) -> Result<(), Stop> {
+        books.close(month.lines)?;
+        Ok(print_table(rt, books, month)?)
     }
 }
 

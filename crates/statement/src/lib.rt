@@ -6,7 +6,7 @@ mod payees;
 mod points;
 mod users;
 
-ghost use Rattle.std.specs.Prelude.{◌≡◌, List, ℤ, length};
+ghost use Rattle.std.specs.Prelude.{◌≡◌, ◌≤◌, List, ℤ};
 ghost use Rattle.rules.specs.Verdict.{Verdict};
 ghost use Rattle.rules.specs.Answers.{verdict_of};
 ghost use Rattle.rules.specs.Lines.{lines_of};
@@ -18,7 +18,8 @@ ghost use Rattle.statement.specs.Writes.{Statable, StatedRows};
 
 use closing::judge::Judged;
 use credits::payees::Payees;
-use rules::{Ledger, Lent, MonthLines, Refusal};
+use refusals::counts::{Counts, counts_verdict, long_enough};
+use rules::{Ledger, Lent, MonthLines, Refusal, Standing};
 
 // A point: use charge and overrun.
 #[derive(Clone, Copy, Default)]
@@ -55,49 +56,40 @@ pub struct PayeeRow {
 
 // How many entries the slices have that a statement is lent: held credits, and the rows of points, users and payees.
 #[derive(Clone, Copy)]
-pub struct RowRooms {
+struct RowRooms {
     pub held: u64,
     pub points: u64,
     pub users: u64,
     pub payees: u64,
 }
 
-// 2: the first slice that is too short; month and credits play no part.
+// 2: the first slice that is too short, for a ledger whose counts passed 1; month and credits play no part.
 #[tactic(auto, unfolding(crate::specs::Statement::short_rooms))]
 fn short_rooms(ledger: Ledger, points: u64, rooms: RowRooms) -> Result<(), Refusal>
+    requires { ledger.agents ≤ 256 }
     ensures { (credits : List ℤ) → verdict_of result ≡ short_rooms (state_of ledger credits) rooms points }
 {
-    if rooms.held < ledger.users {
-        return Err(Refusal::ShortSlice(Lent::Held));
-    }
-    if rooms.points < points {
-        return Err(Refusal::ShortSlice(Lent::PointRows));
-    }
-    if rooms.users < ledger.users {
-        return Err(Refusal::ShortSlice(Lent::UserRows));
-    }
-    if rooms.payees <= ledger.agents {
-        return Err(Refusal::ShortSlice(Lent::PayeeRows));
-    }
-    Ok(())
+    long_enough(Lent::Held, rooms.held, ledger.users)?;
+    long_enough(Lent::PointRows, rooms.points, points)?;
+    long_enough(Lent::UserRows, rooms.users, ledger.users)?;
+    long_enough(Lent::PayeeRows, rooms.payees, ledger.agents + 1)
 }
 
 // 1 and 2, of the counts of its lines and the lengths of its slices; the held credits play no part.
 #[tactic(auto, unfolding(rules::specs::Refusals::count_tests))]
-fn stating_verdict(ledger: Ledger, month: MonthLines, rooms: RowRooms) -> Result<(), Refusal>
-    ensures { (credits : List ℤ) → let l = lines_of month.entry in verdict_of result
-        ≡ count_tests (state_of ledger credits) (short_rooms (state_of ledger credits) rooms (length l.points))
-        (length l.users) (length l.agents) (length l.points) }
+fn stating_verdict(ledger: Ledger, counts: Counts, rooms: RowRooms) -> Result<(), Refusal>
+    ensures { (credits : List ℤ) → verdict_of result
+        ≡ count_tests (state_of ledger credits) (short_rooms (state_of ledger credits) rooms counts.points)
+        counts.users counts.agents counts.points }
 {
-    refusals::counts::counts_verdict(ledger, month)?;
-    short_rooms(ledger, month.points.len() as u64, rooms)
+    counts_verdict(ledger, counts)?;
+    short_rooms(ledger, counts.points, rooms)
 }
 
 // Writes every row of a month that breaks no limit, and answers its balance. `held` has one entry for each user; every slice of rows
 // is as long as its rows are many.
 fn write(
-    ledger: Ledger,
-    held: &[i64],
+    standing: Standing,
     month: MonthLines,
     judged: &Judged,
     point_rows: &mut [PointRow],
@@ -105,18 +97,18 @@ fn write(
     payee_rows: &mut [PayeeRow],
 ) -> i64
     requires { (st : State) × (short : Verdict)
-        × Statable ledger held.now (lines_of month) judged.now.sums judged.now.bills point_rows.old user_rows.old payee_rows.old st short }
+        × Statable standing.ledger standing.held.now (lines_of month) judged.now.sums judged.now.bills point_rows.old user_rows.old payee_rows.old st short }
     ensures { (st : State) (short : Verdict)
-        → Statable ledger held.now (lines_of month.entry) judged.now.sums judged.now.bills
+        → Statable standing.entry.ledger standing.entry.held.now (lines_of month.entry) judged.now.sums judged.now.bills
         point_rows.old user_rows.old payee_rows.old st short
         → StatedRows st (lines_of month.entry) result point_rows.new user_rows.new payee_rows.new }
 {
     points::rows(month.users, month.points, point_rows);
     let pv = credits::columns::pv_total(month.agents);
-    users::state_users(month.users, judged, pv, held, user_rows);
+    users::state_users(month.users, judged, pv, standing.held, user_rows);
     let payees = Payees {
         debits: judged.bills.total,
-        last: ledger.month,
+        last: standing.ledger.month,
         line: month.line,
         agents: month.agents,
     };
@@ -142,14 +134,17 @@ pub fn state(
         users: user_rows.len() as u64,
         payees: payee_rows.len() as u64,
     };
-    let first = stating_verdict(ledger, month, rooms);
-    let judged = closing::judge::judge(first, ledger, held, month)?;
+    let first = stating_verdict(ledger, Counts::of(month), rooms);
+    let judged = closing::judge::judge(first, Standing { ledger, held }, month)?;
     let n = month.points.len();
     let u = month.users.len();
     let m = month.agents.len() + 1;
-    Ok(write(
+    let one_each = Standing {
         ledger,
-        &held[..u],
+        held: &held[..u],
+    };
+    Ok(write(
+        one_each,
         month,
         &judged,
         &mut point_rows[..n],
