@@ -5,7 +5,7 @@ ghost use Rattle.rules.specs.Refusals.{bad_users, bad_agents, bad_counts, short_
 ghost use Rattle.rules.specs.Answers.{lent_place, verdict_of};
 ghost use Rattle.rules.specs.Calls.{state_of};
 
-use rules::{Ledger, Lengths, Lent, MonthLines, Refusal};
+use rules::{AGENTS, Ledger, Lengths, Lent, MonthLines, POINTS, Refusal, USERS};
 
 // How many lines a month has of each kind.
 #[derive(Clone, Copy)]
@@ -41,7 +41,7 @@ pub fn long_enough(lent: Lent, entries: u64, needed: u64) -> Result<(), Refusal>
 fn bad_opening_counts(users: u64, agents: u64) -> bool
     ensures { result ≡ (bad_users users || bad_agents agents) }
 {
-    !(1..=512).contains(&users) || !(1..=256).contains(&agents)
+    !(1..=USERS as u64).contains(&users) || !(1..=AGENTS as u64).contains(&agents)
 }
 
 // 1 and 2 at an opening.
@@ -61,7 +61,7 @@ fn bad_counts(ledger: Ledger, counts: Counts) -> bool
     ensures { (held : List ℤ) → result ≡ bad_counts (state_of ledger held) counts.users counts.agents counts.points }
 {
     bad_opening_counts(counts.users, counts.agents)
-        || 1024 < counts.points
+        || counts.points > POINTS as u64
         || counts.users != ledger.users
         || counts.agents != ledger.agents
         || ledger.month != 0 && crate::months::impossible_month(ledger.month)

@@ -7,6 +7,15 @@ mod outcomes;
 pub use kinds::{Kind, NoKind};
 pub use outcomes::{Lent, Outcome, Refusal};
 
+// The most users, agents, payees and points of a month (paper 01, "A month's lines"). Nothing is allocated: there is fixed room for so many.
+pub const USERS: usize = 512;
+
+pub const AGENTS: usize = 256;
+
+pub const PAYEES: usize = AGENTS + 1;
+
+pub const POINTS: usize = 1024;
+
 // The month line (paper 01, "A month's lines"): yyyymm, and RMONS.
 #[derive(Clone, Copy, Default)]
 pub struct MonthLine {
