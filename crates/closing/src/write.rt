@@ -6,7 +6,7 @@ ghost use Rattle.closing.specs.Written.{Writable, Written};
 
 use charges::month::Bills;
 use credits::payees::Payees;
-use rules::{Ledger, MonthLines};
+use rules::{Ledger, MonthLines, PAYEES};
 
 // Writes the new held credits and the table, the direct charges in its last row. `held` has one entry for each user, `cells` one for each
 // payee and user; which broken cells take the odd cents is free within paper 01, and so is what the work slice holds afterwards.
@@ -26,7 +26,7 @@ pub fn write(
 {
     let n = month.users.len();
     let m = month.agents.len() + 1;
-    let mut vc = [0i64; 257];
+    let mut vc = [0i64; PAYEES];
     let payees = Payees {
         debits: bills.total,
         last: ledger.month,

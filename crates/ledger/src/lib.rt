@@ -39,12 +39,13 @@ pub fn close(
     ensures { Closes ledger held.old (lines_of month.entry) cells.old work.old
         result held.new cells.new work.new }
 {
+    let counts = Counts::of(month);
     let lengths = Lengths {
         held: held.len() as u64,
         cells: cells.len() as u64,
         work: work.len() as u64,
     };
-    let first = closing_verdict(ledger, Counts::of(month), lengths);
+    let first = closing_verdict(ledger, counts, lengths);
     match closing::judge::judge(first, Standing { ledger, held }, month) {
         Err(refusal) => Outcome {
             answer: Err(refusal),
