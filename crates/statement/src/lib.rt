@@ -134,7 +134,8 @@ pub fn state(
         users: user_rows.len() as u64,
         payees: payee_rows.len() as u64,
     };
-    let first = stating_verdict(ledger, Counts::of(month), rooms);
+    let counts = Counts::of(month);
+    let first = stating_verdict(ledger, counts, rooms);
     let judged = closing::judge::judge(first, Standing { ledger, held }, month)?;
     let n = month.points.len();
     let u = month.users.len();

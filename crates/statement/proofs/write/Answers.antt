@@ -19,7 +19,7 @@ state_users-requires c =
 pub invariant_of-payees : goal.invariant_of-payees
 invariant_of-payees c =
     let total : SFits w64 c.args.judged.now.bills.total = search rules in
-    let last : SFits w64 c.args.ledger.month = search rules in
+    let last : SFits w64 c.args.standing.ledger.month = search rules in
     record { payable = rw (to_z-of_z total, to_z-of_z last) (payable c.requires.2) }
 
 pub total-requires : goal.total-requires
@@ -36,7 +36,7 @@ unfolding point_rows
 returns c st short w =
     let pv : SFits w64 c.pv_total-pv.result = search rules in
     let total : SFits w64 c.args.judged.now.bills.total = search rules in
-    let last : SFits w64 c.args.ledger.month = search rules in
+    let last : SFits w64 c.args.standing.ledger.month = search rules in
     let direct : SFits w64 c.total.result = search rules in
     let balance : SFits w64 c.state_payees.result = search rules in
     let payees = rw (to_z-of_z total, to_z-of_z last, to_z-of_z direct, c.total.ensures, w.last_is, w.billed.total) at c.state_payees.ensures in
