@@ -41,7 +41,7 @@ pub fn read_at(
     };
     let next = scan(text, from, room).map_err(refusal)?;
     let mut file = Cursor::new(text, from);
-    let mut month = [MonthLine::default()];
+    let mut month = [MonthLine { month: 0, ons: 0 }];
     file.read_block(MONTH, &mut month);
     let agents = file.read_block(AGENTS, agents);
     let users = file.read_block(USERS, users);

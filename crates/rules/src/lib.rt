@@ -17,7 +17,7 @@ pub const PAYEES: usize = AGENTS + 1;
 pub const POINTS: usize = 1024;
 
 // The month line (paper 01, "A month's lines"): yyyymm, and RMONS.
-#[derive(Clone, Copy, Default)]
+#[derive(Clone, Copy)]
 pub struct MonthLine {
     pub month: i64,
     pub ons: i64,
