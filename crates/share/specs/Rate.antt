@@ -22,11 +22,11 @@ pub record Rated (amount : ℤ) (w whole part fraction : ℕ) : Type 0 where
   pub rounded : Fraction part w fraction
 
 -- a quotient and a remainder below the divisor are the only ones
-pub divided_is : (x w q r : ℕ) (d : Divided) → d.quot ≡ q → d.rem ≡ r → q * w + r ≡ x → r < w → d ≡ divided x w
+pub divided_is : (x w q r : ℕ) (d : Divided ℕ) → d.quot ≡ q → d.rem ≡ r → q * w + r ≡ x → r < w → d ≡ divided x w
 divided_is x w q r d a b e l =
     ap₂ both (a ∙ sym (digits_div q l) ∙ ap (λ (n : ℕ). n / w) e) (b ∙ sym (digits_mod q l) ∙ ap (λ (n : ℕ). n % w) e)
   where
-    both : ℕ → ℕ → Divided
+    both : ℕ → ℕ → Divided ℕ
     both q r = record { quot = q; rem = r }
 
 -- a product whose high word is 0

@@ -13,7 +13,7 @@ use Rattle.share.proofs.floor_of.Goals.{After-raised-up, After-scaled-d}
 abbrev up_to : ℕ → ℕ → ℕ
 up_to q m = cond (eqb m 0) q (q + 1)
 
-below : (p : ℤ) (t w m : ℕ) (d : Divided) → Parts (abs p) t w d → up p ≡ 0 → d.rem ≡ m → (pos 0 -ℤ pos (up_to d.quot m)) ≡ floor (p *ℤ pos t) (pos w)
+below : (p : ℤ) (t w m : ℕ) (d : Divided ℕ) → Parts (abs p) t w d → up p ≡ 0 → d.rem ≡ m → (pos 0 -ℤ pos (up_to d.quot m)) ≡ floor (p *ℤ pos t) (pos w)
 below p t w zero d k z e = quot_is (whole p t w k z e)
 below p t w (suc m) d k z e =
     rw (ne_eqb (suc m) 0 (λ k. omega arith))
