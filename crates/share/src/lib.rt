@@ -74,6 +74,7 @@ pub fn fill(p: i64, total: i64, weights: &[i64], parts: &mut [i64])
 {
     let mut through = 0;
     let mut lower = 0;
+    // by index: of what a zipped `iter_mut` writes a proof learns nothing
     for (i, weight) in weights.iter().enumerate() {
         through += *weight;
         let upper = floor_of(p, through as u64, total as u64);
