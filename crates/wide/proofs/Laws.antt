@@ -1,5 +1,6 @@
 -- Quotient and remainder are settled by what they add up to; and the three cases of `ratio`.
-use Rattle.std.proofs.Common.{◌≡◌, ℕ, ◌+◌, ◌*◌, ◌/◌, ◌%◌, ◌^◌, ◌<◌, ◌≤◌, sym, refl, ap, ◌∙◌, ap₂, mod-lt, div-lt_iff_lt-mul, div-add-mod', arith, le-ltb, lt-ltb, ne_eqb, Ok, Err}
+use Rattle.std.proofs.Common.{◌≡◌, ℕ, ◌+◌, ◌*◌, ◌/◌, ◌%◌, ◌^◌, ◌<◌, ◌≤◌, sym, refl}
+use Rattle.std.proofs.Common.{ap, ◌∙◌, ap₂, mod-lt, div-lt_iff_lt-mul, div-add-mod', arith, le-ltb, lt-ltb, ne_eqb, Ok, Err}
 use mathlib.Core.Path.{subst⁻¹}
 use lib.Arith.{digits_div, digits_mod}
 use Rattle.wide.specs.declared.Words.{Words}
