@@ -1,6 +1,7 @@
 -- Bounds of sums, differences, products and floors, each with its fit in 64 bits. A bound that is a numeral is computed, so that the
 -- last argument of each law is `tt`.
-use Rattle.std.specs.Prelude.{◌≡◌, refl, List, [], ◌∷◌, ℕ, zero, suc, ◌+◌, ◌*◌, ◌/◌, ◌^◌, ◌≤◌, ◌<◌, T, leb, ltb, length, take, get_or, ℤ, pos, negsuc, ◌+ℤ◌, ◌-ℤ◌, ◌*ℤ◌, ◌≤ℤ◌}
+use Rattle.std.specs.Prelude.{◌≡◌, refl, List, [], ◌∷◌, ℕ, zero, suc, ◌+◌, ◌*◌, ◌/◌, ◌^◌, ◌≤◌, ◌<◌}
+use Rattle.std.specs.Prelude.{T, leb, ltb, length, take, get_or, ℤ, pos, negsuc, ◌+ℤ◌, ◌-ℤ◌, ◌*ℤ◌, ◌≤ℤ◌}
 use Rattle.std.proofs.Common.{ap, subst, zero-le, suc-le-suc, arith, mul-le-mul, mul-le-mul_left, le_trans, div-lt_iff_lt-mul, leb→le, ltb→lt, SFits}
 use Rattle.std.specs.Int.{w64}
 use Rattle.ints.specs.Bridge.{up, dn, abs, za, add#, sub#, mul#, one#}
@@ -61,14 +62,16 @@ word_scale {L} {H} {G} {x} {y} v w t =
     t
 
 -- a number no larger in size than another
-pub word_within : {L H : ℕ} {x : ℤ} (K : ℕ) (y : ℤ) → abs y ≤ abs x → Word L H x → T (leb L K) → T (leb H K) → T (ltb (K + K) (2 ^ 63)) → Word K K y
+pub word_within : {L H : ℕ} {x : ℤ} (K : ℕ) (y : ℤ) → abs y ≤ abs x → Word L H x → T (leb L K) → T (leb H K) → T (ltb (K + K) (2 ^ 63))
+    → Word K K y
 word_within {L} {H} {x} K y h w l k t =
     let a = leb→le L K l in
     let b = leb→le H K k in
     word (omega (arith, one# x)) (omega (arith, one# x)) t
 
 -- of a number that is not negative, rounded down
-pub word_floor : {X : ℕ} {x : ℤ} (H w : ℕ) → Word 0 X x → T (ltb 0 w) → T (ltb X (suc H * w)) → T (ltb (0 + H) (2 ^ 63)) → Word 0 H (floor x (pos w))
+pub word_floor : {X : ℕ} {x : ℤ} (H w : ℕ) → Word 0 X x → T (ltb 0 w) → T (ltb X (suc H * w)) → T (ltb (0 + H) (2 ^ 63))
+    → Word 0 H (floor x (pos w))
 unfolding floor
 word_floor {X} {x} H w v z h t = go x v.low v.high
   where
@@ -88,7 +91,8 @@ sum_any K (x ∷ xs) zero s = omega arith
 sum_any K (x ∷ xs) (suc i) s = omega (arith, s.small 0 (suc-le-suc zero-le), sum_any K xs i (small_tail s), add# x (sum_ℤ (take i xs)))
 
 -- each part's sum, of a list whose entries are at most K in size
-pub word_take : (K n : ℕ) (xs : List ℤ) (i : ℕ) → Small K xs → length xs ≤ n → T (ltb (K * n + K * n) (2 ^ 63)) → Word (K * n) (K * n) (sum_ℤ (take i xs))
+pub word_take : (K n : ℕ) (xs : List ℤ) (i : ℕ) → Small K xs → length xs ≤ n → T (ltb (K * n + K * n) (2 ^ 63))
+    → Word (K * n) (K * n) (sum_ℤ (take i xs))
 word_take K n xs i s l t =
     let h : abs (sum_ℤ (take i xs)) ≤ K * n = le_trans (sum_any K xs i s) (mul-le-mul_left K l) in
     word (omega arith) (omega arith) t

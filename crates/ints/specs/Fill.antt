@@ -1,6 +1,7 @@
 -- What a loop that writes a slice from its start has written: the first i entries are those of `new`, the others those of `old`.
 use Rattle.std.specs.Prelude.{◌≡◌, refl, List, [], ◌∷◌, ◌++◌, ℕ, suc, ◌+◌, ◌≤◌, ◌<◌, length, take, drop, get_or, set}
-use Rattle.std.proofs.Common.{sym, ap, ap₂, ◌∙◌, append-nil, arith, add-one, length-append, length-drop, drop_of_length-le, take-suc, drop-cons, length-take-le, take_all}
+use Rattle.std.proofs.Common.{sym, ap, ap₂, ◌∙◌, append-nil, arith, add-one}
+use Rattle.std.proofs.Common.{length-append, length-drop, drop_of_length-le, take-suc, drop-cons, length-take-le, take_all}
 use Rattle.std.proofs.lemmas.List.{set_at, get_or_at}
 use Rattle.std.proofs.Math.Seq.{append_snoc}
 
@@ -21,7 +22,8 @@ module _ {A : Type 0} (new old : List A) (same : length new ≡ length old) wher
       ∙ get_or_at (take i new) (get_or old i d) (drop (suc i) old) d i (length-take-le i new (omega arith))
 
   -- one more entry, at i
-  pub filled_more : {xs : List A} (i : ℕ) (d v : A) → xs ≡ filled new old i → i < length old → v ≡ get_or new i d → set xs i v ≡ filled new old (i + 1)
+  pub filled_more : {xs : List A} (i : ℕ) (d v : A) → xs ≡ filled new old i → i < length old → v ≡ get_or new i d
+      → set xs i v ≡ filled new old (i + 1)
   filled_more i d v f h e =
       ap (λ (l : List A). set l i v) (f ∙ ap (λ (l : List A). take i new ++ l) (drop-cons old i d h))
       ∙ set_at (take i new) (get_or old i d) (drop (suc i) old) v i (length-take-le i new (omega arith))
@@ -54,7 +56,8 @@ module _ {A : Type 0} {new old now : List A} {i : ℕ} (same : length new ≡ le
   filling_all h = f.so_far ∙ filled_all new old same i (omega (arith, f.here))
 
 -- the last entry, after a part of all before it was lent and filled
-pub set_last : {A : Type 0} (new old : List A) (n : ℕ) (v : A) → length old ≡ n + 1 → length new ≡ n → set (new ++ drop n old) n v ≡ new ++ v ∷ []
+pub set_last : {A : Type 0} (new old : List A) (n : ℕ) (v : A) → length old ≡ n + 1 → length new ≡ n
+    → set (new ++ drop n old) n v ≡ new ++ v ∷ []
 set_last {A} new old n v h k =
     ap (λ (l : List A). set (new ++ l) n v) (drop-cons old n v (omega arith))
     ∙ set_at new (get_or old n v) (drop (suc n) old) v n k

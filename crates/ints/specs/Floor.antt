@@ -1,5 +1,6 @@
 -- Division rounded down, of a whole number by a natural above 0: what it is, that there is one such number, and its laws.
-use Rattle.std.specs.Prelude.{◌≡◌, refl, ℕ, ◌+◌, ◌*◌, ◌/◌, ◌≤◌, ◌<◌, ℤ, pos, negsuc, ◌+ℤ◌, ◌*ℤ◌, ◌≤ℤ◌, ◌<ℤ◌}
+use Rattle.std.specs.Prelude.{◌≡◌, refl, ℕ, ◌+◌, ◌*◌, ◌/◌, ◌≤◌, ◌<◌}
+use Rattle.std.specs.Prelude.{ℤ, pos, negsuc, ◌+ℤ◌, ◌*ℤ◌, ◌≤ℤ◌, ◌<ℤ◌}
 use Rattle.std.proofs.Common.{ap, ⊎_elim, arith, mul-le-mul_right, mul-le-mul_left, div-add-mod', mod-lt}
 use Rattle.std.proofs.Math.Nat.{div-zero}
 use Rattle.ints.specs.Bridge.{up, dn, abs, za, add#, mul#, one#, lt_in}

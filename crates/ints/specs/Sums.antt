@@ -1,6 +1,7 @@
 -- Sums of whole numbers: of a list, and of a function over the numbers below n.
 use mathlib.Core.Path.{◌≡◌, refl, sym, ap, ◌∙◌}
-use Rattle.std.specs.Prelude.{List, [], ◌∷◌, ◌++◌, ℕ, zero, suc, ◌+◌, ◌*◌, ◌^◌, ◌≤◌, ◌<◌, length, take, get_or, set, ◌≤ℤ◌}
+use Rattle.std.specs.Prelude.{List, [], ◌∷◌, ◌++◌, ℕ, zero, suc, ◌+◌, ◌*◌}
+use Rattle.std.specs.Prelude.{◌^◌, ◌≤◌, ◌<◌, length, take, get_or, set, ◌≤ℤ◌}
 use Rattle.std.proofs.Common.{zero-le, suc-le-suc, arith, le_of_suc-le-suc, not-suc-le-zero, mul-le-mul_left, add-one, take-suc, take_all, SFits}
 use lib.IntN.{ℤ, pos, ◌+ℤ◌, ◌-ℤ◌, ◌*ℤ◌, +ℤ_idl, +ℤ_idr, +ℤ_assoc}
 use Rattle.std.specs.Int.{w64}
@@ -61,7 +62,8 @@ sum_take_small K (x ∷ xs) (suc i) h k = omega (
 pub small_fits : (K : ℕ) (xs : List ℤ) (i : ℕ) → K < 2 ^ 63 → i < length xs → Small K xs → SFits w64 (get_or xs i (pos 0))
 small_fits K xs i k h s = omega (za, s.small i h)
 
-pub turn_fits : (K : ℕ) (xs : List ℤ) (i : ℕ) → K * length xs < 2 ^ 63 → i < length xs → Small K xs → SFits w64 (sum_ℤ (take i xs) +ℤ get_or xs i (pos 0))
+pub turn_fits : (K : ℕ) (xs : List ℤ) (i : ℕ) → K * length xs < 2 ^ 63 → i < length xs → Small K xs
+    → SFits w64 (sum_ℤ (take i xs) +ℤ get_or xs i (pos 0))
 turn_fits K xs i k h s =
     omega (za, s.small i h, sum_take_small K xs i s (omega arith), mul-le-mul_left K h, add# (sum_ℤ (take i xs)) (get_or xs i (pos 0)))
 
@@ -109,7 +111,8 @@ sum_set (x ∷ xs) zero v d h = swap x v (sum_ℤ xs)
   where
     swap : (x v s : ℤ) → v +ℤ s ≡ x +ℤ s +ℤ (v -ℤ x)
     swap = all3 _ (λ a b c d e f. simp diff (omega arith))
-sum_set (x ∷ xs) (suc i) v d h = ap (λ (t : ℤ). x +ℤ t) (sum_set xs i v d (le_of_suc-le-suc h)) ∙ sym (+ℤ_assoc x (sum_ℤ xs) (v -ℤ get_or xs i d))
+sum_set (x ∷ xs) (suc i) v d h =
+    ap (λ (t : ℤ). x +ℤ t) (sum_set xs i v d (le_of_suc-le-suc h)) ∙ sym (+ℤ_assoc x (sum_ℤ xs) (v -ℤ get_or xs i d))
 
 -- ---- of a function, over the numbers below n: rows and columns of a table
 unfoldable pub Σ< : ℕ → (ℕ → ℤ) → ℤ

@@ -1,6 +1,8 @@
 -- What the machine adds: a signed local holds bits, so that each operand is read back from them, `to_z w64 (of_z w64 x)`, which is x where x fits.
-use Rattle.std.specs.Prelude.{◌≡◌, refl, Bool, true, false, ℕ, zero, suc, ◌+◌, ◌/◌, ◌%◌, ◌≤◌, ◌<◌, ◌^◌, T, eqb, ltb, ℤ, pos, negsuc, nat_abs, neg_ℤ, ◌+ℤ◌, ◌-ℤ◌, ◌*ℤ◌, ◌≤ℤ◌, ◌<ℤ◌}
-use Rattle.std.proofs.Common.{sym, ap, ◌∙◌, arith, eq-eqb, ne_eqb, div-le_self, div-add-mod', div-lt_iff_lt-mul, mul-le-mul_left, SFits, Fits, to_z, of_z, to_z-of_z}
+use Rattle.std.specs.Prelude.{◌≡◌, refl, Bool, true, false, ℕ, zero, suc, ◌+◌, ◌/◌, ◌%◌, ◌≤◌, ◌<◌, ◌^◌}
+use Rattle.std.specs.Prelude.{T, eqb, ltb, ℤ, pos, negsuc, nat_abs, neg_ℤ, ◌+ℤ◌, ◌-ℤ◌, ◌*ℤ◌, ◌≤ℤ◌, ◌<ℤ◌}
+use Rattle.std.proofs.Common.{sym, ap, ◌∙◌, arith, eq-eqb, ne_eqb, div-le_self, div-add-mod'}
+use Rattle.std.proofs.Common.{div-lt_iff_lt-mul, mul-le-mul_left, SFits, Fits, to_z, of_z, to_z-of_z}
 use Rattle.std.specs.Int.Signed.{non_neg, quot_z, rem_z}
 use Rattle.std.proofs.Math.Nat.{mod-le}
 use Rattle.std.specs.Int.{w64}

@@ -1,6 +1,7 @@
 -- Laws of the running share (paper 01, "Running share"), for every list of weights and an amount P of either sign. Each asks only what
 -- it needs: total and nearness a weight sum above 0, sign and size also that no weight is negative, the others nothing.
-use Rattle.std.specs.Prelude.{◌≡◌, ℕ, zero, suc, ◌+◌, ◌<◌, List, [], ◌∷◌, length, take, ℤ, pos, ◌+ℤ◌, ◌-ℤ◌, ◌*ℤ◌, ◌≤ℤ◌, ◌<ℤ◌, slice_index_or, refl}
+use Rattle.std.specs.Prelude.{◌≡◌, ℕ, zero, suc, ◌+◌, ◌<◌, List, [], ◌∷◌, length, take}
+use Rattle.std.specs.Prelude.{ℤ, pos, ◌+ℤ◌, ◌-ℤ◌, ◌*ℤ◌, ◌≤ℤ◌, ◌<ℤ◌, slice_index_or, refl}
 use Rattle.std.proofs.Common.{add-one, sym, ap, ap₂, ◌∙◌}
 use Rattle.std.proofs.Math.Seq.{take-nil}
 use Rattle.std.proofs.Math.IntN.{+ℤ_idl, +ℤ_idr, +ℤ_assoc}
@@ -20,14 +21,16 @@ unfolding running_share
 length_share P ws = length_from P (sum_ℤ ws) (pos 0) ws
 
 -- ---- part k lies between the sum of the weights before it and the sum through it
-at_from : (P W b : ℤ) (ws : List ℤ) (k : ℕ) → slice_index_or (parts_from P W b ws) k (pos 0) ≡ part P (b +ℤ sum_ℤ (take k ws)) (b +ℤ sum_ℤ (take (suc k) ws)) W
+at_from : (P W b : ℤ) (ws : List ℤ) (k : ℕ) → slice_index_or (parts_from P W b ws) k (pos 0)
+    ≡ part P (b +ℤ sum_ℤ (take k ws)) (b +ℤ sum_ℤ (take (suc k) ws)) W
 unfolding parts_from sum_ℤ
 at_from P W b [] k = sym (ap (λ (l : List ℤ). part P (b +ℤ sum_ℤ l) (b +ℤ pos 0) W) (take-nil k) ∙ part_none P (b +ℤ pos 0) W)
 at_from P W b (w ∷ ws) zero = ap₂ (λ (x y : ℤ). part P x (b +ℤ y) W) (sym (+ℤ_idr b)) (sym (+ℤ_idr w))
 at_from P W b (w ∷ ws) (suc k) =
     at_from P W (b +ℤ w) ws k ∙ ap₂ (λ (x y : ℤ). part P x y W) (+ℤ_assoc b w (sum_ℤ (take k ws))) (+ℤ_assoc b w (sum_ℤ (take (suc k) ws)))
 
-pub part_at : (P : ℤ) (ws : List ℤ) (k : ℕ) → slice_index_or (running_share P ws) k (pos 0) ≡ part P (sum_ℤ (take k ws)) (sum_ℤ (take (k + 1) ws)) (sum_ℤ ws)
+pub part_at : (P : ℤ) (ws : List ℤ) (k : ℕ) → slice_index_or (running_share P ws) k (pos 0)
+    ≡ part P (sum_ℤ (take k ws)) (sum_ℤ (take (k + 1) ws)) (sum_ℤ ws)
 unfolding running_share
 part_at P ws k = rw add-one (at_from P (sum_ℤ ws) (pos 0) ws k ∙ ap₂ (λ (x y : ℤ). part P x y (sum_ℤ ws)) (+ℤ_idl (sum_ℤ (take k ws)))
     (+ℤ_idl (sum_ℤ (take (suc k) ws))))

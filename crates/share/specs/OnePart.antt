@@ -1,6 +1,7 @@
 -- Laws of one part, the share of an amount P of either sign between two weight sums: what it makes with its neighbour, how near the
 -- exact share it is, its sign and its size.
-use Rattle.std.specs.Prelude.{◌≡◌, ℕ, zero, suc, ◌*◌, ◌<◌, ◌≤◌, ℤ, pos, negsuc, ◌+ℤ◌, ◌-ℤ◌, ◌*ℤ◌, ◌≤ℤ◌, ◌<ℤ◌}
+use Rattle.std.specs.Prelude.{◌≡◌, ℕ, zero, suc, ◌*◌, ◌<◌, ◌≤◌}
+use Rattle.std.specs.Prelude.{ℤ, pos, negsuc, ◌+ℤ◌, ◌-ℤ◌, ◌*ℤ◌, ◌≤ℤ◌, ◌<ℤ◌}
 use Rattle.std.proofs.Common.{arith, mul-le-mul_left, sym, ap, ⊎_elim}
 use Rattle.std.proofs.Math.IntN.{+ℤ_invr}
 use Rattle.ints.specs.Bridge.{abs, za, add#, sub#, mul#, one#, le_in}

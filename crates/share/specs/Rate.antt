@@ -1,7 +1,8 @@
 -- One amount over many weights of one sum w: its size is whole · w + part, and part over w is a fraction of 2^63. For each weight
 -- t the product with the fraction is the quotient of part × t over w, or one less.
 use Rattle.std.specs.Prelude.{◌≡◌, ℕ, ◌+◌, ◌*◌, ◌/◌, ◌%◌, ◌^◌, ◌<◌, ◌≤◌, ℤ}
-use Rattle.std.proofs.Common.{sym, ap, ap₂, ◌∙◌, ⊎_elim, arith, mul-le-mul_right, mul-lt-mul_of_pos_right, le_of_mul-le-mul_right, div-add-mod', mod-lt, div-lt_iff_lt-mul}
+use Rattle.std.proofs.Common.{sym, ap, ap₂, ◌∙◌, ⊎_elim, arith}
+use Rattle.std.proofs.Common.{mul-le-mul_right, mul-lt-mul_of_pos_right, le_of_mul-le-mul_right, div-add-mod', mod-lt, div-lt_iff_lt-mul}
 use Rattle.std.proofs.Math.Arith.{digits_div, digits_mod}
 use Rattle.ints.specs.Bridge.{abs}
 use Rattle.ints.specs.NatSums.{le_or_lt}
@@ -22,11 +23,11 @@ pub record Rated (amount : ℤ) (w whole part fraction : ℕ) : Type 0 where
   pub rounded : Fraction part w fraction
 
 -- a quotient and a remainder below the divisor are the only ones
-pub divided_is : (x w q r : ℕ) (d : Divided) → d.quot ≡ q → d.rem ≡ r → q * w + r ≡ x → r < w → d ≡ divided x w
+pub divided_is : (x w q r : ℕ) (d : Divided ℕ) → d.quot ≡ q → d.rem ≡ r → q * w + r ≡ x → r < w → d ≡ divided x w
 divided_is x w q r d a b e l =
     ap₂ both (a ∙ sym (digits_div q l) ∙ ap (λ (n : ℕ). n / w) e) (b ∙ sym (digits_mod q l) ∙ ap (λ (n : ℕ). n % w) e)
   where
-    both : ℕ → ℕ → Divided
+    both : ℕ → ℕ → Divided ℕ
     both q r = record { quot = q; rem = r }
 
 -- a product whose high word is 0

@@ -1,7 +1,7 @@
 // The exact running share of an amount over weights (paper 01, "Units and arithmetic" and "The month file").
 #![tactic(auto)]
 
-ghost use Rattle.std.specs.Prelude.{◌≡◌, ◌+◌, ◌*◌, ◌<◌, ◌≤◌, pos, ◌*ℤ◌, if◌then◌else◌, nat_eq};
+ghost use Rattle.std.specs.Prelude.{◌≡◌, ◌*◌, ◌<◌, ◌≤◌, pos, ◌*ℤ◌};
 ghost use Rattle.ints.specs.Bridge.{abs};
 ghost use Rattle.ints.specs.Floor.{floor};
 ghost use Rattle.wide.specs.Exact.{divided};
@@ -32,21 +32,13 @@ fn scaled(a: u64, t: u64, w: u64) -> Divided
     wide::quotient::of_product(a, t, w).unwrap()
 }
 
-// The quotient, or one more where something is left over.
-fn raised(d: Divided) -> u64
-    requires { d.quot ≤ 100000000000000000 }
-    ensures { result ≡ (if nat_eq d.rem 0 then d.quot else d.quot + 1) }
-{
-    if d.rem == 0 { d.quot } else { d.quot + 1 }
-}
-
 // p × t over w rounded down. Both signs are worked out and one is taken, since a branch on the sign costs more.
 fn floor_of(p: i64, t: u64, w: u64) -> i64
     requires { (abs p ≤ 100000000000000000) × (t ≤ w) × (0 < w) }
     ensures { result ≡ floor (p *ℤ pos t) (pos w) }
 {
     let d = scaled(p.unsigned_abs(), t, w);
-    let up = raised(d) as i64;
+    let up = (d.quot + u64::from(d.rem > 0)) as i64;
     if p < 0 { -up } else { d.quot as i64 }
 }
 
@@ -82,6 +74,7 @@ pub fn fill(p: i64, total: i64, weights: &[i64], parts: &mut [i64])
 {
     let mut through = 0;
     let mut lower = 0;
+    // by index: of what a zipped `iter_mut` writes a proof learns nothing
     for (i, weight) in weights.iter().enumerate() {
         through += *weight;
         let upper = floor_of(p, through as u64, total as u64);

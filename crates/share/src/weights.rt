@@ -10,13 +10,6 @@ use super::scaled;
 use wide::Divided;
 use wide::product::multiply;
 
-// p × t over w: the quotient rounded down, and what is left over.
-#[derive(Clone, Copy, Debug, PartialEq, Eq)]
-pub struct Floored {
-    pub quot: i64,
-    pub rem: u64,
-}
-
 // An amount over w, divided once for all its weights: its size is whole times w and part, and part over w is a fraction of 2^63.
 #[derive(Clone, Copy)]
 pub struct Rate {
@@ -88,22 +81,22 @@ impl Rate {
         }
     }
 
-    // The amount × t over w: what is below 0 goes by its size, and a remainder takes it one further down.
-    pub fn at(self, t: u64) -> Floored
+    // The amount × t over w, rounded down: what is below 0 goes by its size, and a remainder takes it one further down.
+    pub fn at(self, t: u64) -> Divided<i64>
         requires { t ≤ self.w }
         ensures { Split (self.amount *ℤ pos t) self.w result.quot result.rem }
     {
         let d = self.size_at(t);
         let q = d.quot as i64;
         if self.amount >= 0 {
-            Floored {
+            Divided {
                 quot: q,
                 rem: d.rem,
             }
         } else if d.rem == 0 {
-            Floored { quot: -q, rem: 0 }
+            Divided { quot: -q, rem: 0 }
         } else {
-            Floored {
+            Divided {
                 quot: -q - 1,
                 rem: self.w - d.rem,
             }

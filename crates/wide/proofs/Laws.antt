@@ -1,5 +1,6 @@
 -- Quotient and remainder are settled by what they add up to; and the three cases of `ratio`.
-use Rattle.std.proofs.Common.{◌≡◌, ℕ, ◌+◌, ◌*◌, ◌/◌, ◌%◌, ◌^◌, ◌<◌, ◌≤◌, sym, refl, ap, ◌∙◌, ap₂, mod-lt, div-lt_iff_lt-mul, div-add-mod', arith, le-ltb, lt-ltb, ne_eqb, Ok, Err}
+use Rattle.std.proofs.Common.{◌≡◌, ℕ, ◌+◌, ◌*◌, ◌/◌, ◌%◌, ◌^◌, ◌<◌, ◌≤◌, sym, refl}
+use Rattle.std.proofs.Common.{ap, ◌∙◌, ap₂, mod-lt, div-lt_iff_lt-mul, div-add-mod', arith, le-ltb, lt-ltb, ne_eqb, Ok, Err}
 use mathlib.Core.Path.{subst⁻¹}
 use lib.Arith.{digits_div, digits_mod}
 use Rattle.wide.specs.declared.Words.{Words}
@@ -14,18 +15,18 @@ module _ (q d r n : ℕ) (whole : q * d + r ≡ n) (small : r < d) where
   rem_is : r ≡ n % d
   rem_is = sym (digits_mod q small) ∙ ap (λ (x : ℕ). x % d) whole
 
-pub divided_is : (q d r n : ℕ) → q * d + r ≡ n → r < d → ◌≡◌ {A = Divided} (record { quot = q; rem = r }) (divided n d)
-divided_is q d r n e h = ap₂ {C = Divided} (λ (x y : ℕ). record { quot = x; rem = y }) (quot_is q d r n e h) (rem_is q d r n e h)
+pub divided_is : (q d r n : ℕ) → q * d + r ≡ n → r < d → ◌≡◌ {A = Divided ℕ} (record { quot = q; rem = r }) (divided n d)
+divided_is q d r n e h = ap₂ {C = Divided ℕ} (λ (x y : ℕ). record { quot = x; rem = y }) (quot_is q d r n e h) (rem_is q d r n e h)
 
 -- what a quotient and remainder are known by
-pub record Divides (n d : ℕ) (r : Divided) : Type 0 where
+pub record Divides (n d : ℕ) (r : Divided ℕ) : Type 0 where
   pub whole : r.quot * d + r.rem ≡ n
   pub small : r.rem < d
 
-pub divides : {n d : ℕ} {r : Divided} → 0 < d → r ≡ divided n d → Divides n d r
-divides {n} {d} z e = subst⁻¹ (λ (r : Divided). Divides n d r) e (record { whole = div-add-mod' n d; small = mod-lt n z })
+pub divides : {n d : ℕ} {r : Divided ℕ} → 0 < d → r ≡ divided n d → Divides n d r
+divides {n} {d} z e = subst⁻¹ (λ (r : Divided ℕ). Divides n d r) e (record { whole = div-add-mod' n d; small = mod-lt n z })
 
-pub quot_lt : {n d : ℕ} {r : Divided} (k : ℕ) → 0 < d → r ≡ divided n d → n < k * d → r.quot < k
+pub quot_lt : {n d : ℕ} {r : Divided ℕ} (k : ℕ) → 0 < d → r ≡ divided n d → n < k * d → r.quot < k
 quot_lt k z e h = rw e ((div-lt_iff_lt-mul z).1 h)
 
 -- long division: what is left of the first digits, in base B, goes before the next

@@ -10,9 +10,9 @@ abbrev pub words : ℕ → Words
 words n = record { high = n / 2 ^ 64; low = n % 2 ^ 64 }
 
 -- quotient and remainder of n over d
-abbrev pub divided : ℕ → ℕ → Divided
+abbrev pub divided : ℕ → ℕ → Divided ℕ
 divided n d = record { quot = n / d; rem = n % d }
 
 -- a × b over c: quotient and remainder, or that c is 0, or that the quotient passes 64 bits
-unfoldable pub ratio : ℕ → ℕ → ℕ → Result Divided NoRatio
+unfoldable pub ratio : ℕ → ℕ → ℕ → Result (Divided ℕ) NoRatio
 ratio a b c = cond (c == 0) (Err ByZero) (cond (nat_lt (a * b / c) (2 ^ 64)) (Ok (divided (a * b) c)) (Err Over))

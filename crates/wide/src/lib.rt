@@ -12,10 +12,10 @@ pub struct Words {
     pub low: u64,
 }
 
-// A quotient and its remainder.
+// A quotient, which may have a sign, and its remainder, which has none.
 #[derive(Clone, Copy, Debug, PartialEq, Eq)]
-pub struct Divided {
-    pub quot: u64,
+pub struct Divided<Q = u64> {
+    pub quot: Q,
     pub rem: u64,
 }
 

@@ -16,13 +16,13 @@ fn high_half(x: u64) -> u64
     x >> 32
 }
 
-// x + y, the carry as the high word: a sum that wrapped is below each of its terms.
+// x + y, the carry as the high word.
 fn add(x: u64, y: u64) -> Words
     ensures { result ≡ words (x + y) }
 {
-    let low = x.wrapping_add(y);
+    let (low, carried) = x.overflowing_add(y);
     Words {
-        high: u64::from(low < x),
+        high: u64::from(carried),
         low,
     }
 }

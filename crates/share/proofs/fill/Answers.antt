@@ -1,4 +1,5 @@
-use Rattle.std.proofs.Common.{◌≡◌, ℕ, ◌+◌, ◌<◌, ◌≤◌, T, List, length, get_or, take, set, ℤ, pos, ◌+ℤ◌, ◌-ℤ◌, ◌*ℤ◌, nat_abs, ◌≤ℤ◌, ◌<ℤ◌, sym, ap, ◌∙◌, ap₂, arith, to_z-of_z, w64, Fits, SFits, rules}
+use Rattle.std.proofs.Common.{◌≡◌, ℕ, ◌+◌, ◌<◌, ◌≤◌, T, List, length, get_or, take, set, ℤ, pos, ◌+ℤ◌, ◌-ℤ◌}
+use Rattle.std.proofs.Common.{◌*ℤ◌, nat_abs, ◌≤ℤ◌, ◌<ℤ◌, sym, ap, ◌∙◌, ap₂, arith, to_z-of_z, w64, Fits, SFits, rules}
 use Rattle.std.specs.Int.Signed.{non_neg}
 use Rattle.ints.specs.Bridge.{abs, abs_is, za}
 use Rattle.ints.specs.Fill.{filling_none, filling_more, filling_all}
@@ -54,8 +55,11 @@ module _ {P W : ℤ} {ws old : List ℤ} (f : Fillable P W ws old) where
     )
 
     -- what `floor_of` answers
-    upper_is : {q : ℤ} → q ≡ floor (P *ℤ pos (nat_abs (through +ℤ get_or ws i (pos 0)))) (pos (nat_abs W)) → q ≡ floor (P *ℤ sum_ℤ (take (i + 1) ws)) W
-    upper_is e = e ∙ ap₂ (λ (x y : ℤ). floor (P *ℤ x) y) (ap (λ (x : ℤ). pos (nat_abs x)) next ∙ size (through_low (i + 1))) (size (omega (za, above_zero)))
+    upper_is : {q : ℤ} → q ≡ floor (P *ℤ pos (nat_abs (through +ℤ get_or ws i (pos 0)))) (pos (nat_abs W))
+        → q ≡ floor (P *ℤ sum_ℤ (take (i + 1) ws)) W
+    upper_is e =
+        e
+        ∙ ap₂ (λ (x y : ℤ). floor (P *ℤ x) y) (ap (λ (x : ℤ). pos (nat_abs x)) next ∙ size (through_low (i + 1))) (size (omega (za, above_zero)))
       where
         size : {x : ℤ} → pos 0 ≤ℤ x → pos (nat_abs x) ≡ x
         size {x} h = omega (za, abs_is x)

@@ -1,5 +1,7 @@
 -- A size goes through the natural quotient q and remainder m; below 0 the floor is −q, or one less where m is not 0.
-use Rattle.std.proofs.Common.{◌≡◌, refl, ℕ, zero, suc, ◌+◌, ◌≤◌, cond, eqb, ℤ, pos, ◌-ℤ◌, ◌*ℤ◌, ◌∙◌, le_trans, arith, to_z-of_z, ne_eqb}
+use Rattle.std.proofs.Common.{◌≡◌, refl, ℕ, zero, suc, ◌+◌, ◌≤◌, ltb, ℤ, pos, ◌-ℤ◌, ◌*ℤ◌, ◌∙◌, arith, to_z-of_z}
+use Rattle.std.proofs.lemmas.Grind.{common_steps}
+use mir.Val.{bool_byte}
 use Rattle.ints.specs.Bridge.{up, dn, abs, za, sub#, one#}
 use Rattle.ints.specs.Floor.{floor}
 use Rattle.ints.specs.Rest.{quot_is}
@@ -7,46 +9,39 @@ use Rattle.ints.specs.Words.{back#}
 use Rattle.wide.specs.declared.Divided.{Divided}
 use Rattle.share.proofs.Signs.{Parts, parts_of, above, whole, broken, word, minus}
 use Rattle.share.proofs.floor_of.Goals as goal
-use Rattle.share.proofs.floor_of.Goals.{After-raised-up, After-scaled-d}
+use Rattle.share.proofs.floor_of.Goals.{After-from}
 
--- the quotient, or one more
-abbrev up_to : ℕ → ℕ → ℕ
-up_to q m = cond (eqb m 0) q (q + 1)
-
-below : (p : ℤ) (t w m : ℕ) (d : Divided) → Parts (abs p) t w d → up p ≡ 0 → d.rem ≡ m → (pos 0 -ℤ pos (up_to d.quot m)) ≡ floor (p *ℤ pos t) (pos w)
-below p t w zero d k z e = quot_is (whole p t w k z e)
-below p t w (suc m) d k z e =
-    rw (ne_eqb (suc m) 0 (λ k. omega arith))
-    (one_down d.quot ∙ quot_is (broken p t w k z (omega arith)))
+-- k is 1 where a remainder m is left over, else 0
+below : (p : ℤ) (t w m k : ℕ) (d : Divided ℕ) → Parts (abs p) t w d → up p ≡ 0 → d.rem ≡ m → k ≡ bool_byte (ltb 0 m)
+    → (pos 0 -ℤ pos (d.quot + k)) ≡ floor (p *ℤ pos t) (pos w)
+below p t w zero k d g z e f = let h : d.quot + k ≡ d.quot = grind (arith, common_steps) in rw h (quot_is (whole p t w g z e))
+below p t w (suc m) k d g z e f = one_down ∙ quot_is (broken p t w g z (omega arith))
   where
-    one_down : (q : ℕ) → (pos 0 -ℤ pos (q + 1)) ≡ (pos 0 -ℤ pos q -ℤ pos 1)
-    one_down q = omega (za, sub# (pos 0) (pos (q + 1)), sub# (pos 0) (pos q), sub# (pos 0 -ℤ pos q) (pos 1))
+    one : k ≡ 1
+    one = grind (arith, common_steps)
 
-up_to_le : (q m : ℕ) → q ≤ 100000000000000000 → up_to q m ≤ 100000000000000001
-up_to_le q zero h = omega arith
-up_to_le q (suc m) h = rw (ne_eqb (suc m) 0 (λ k. omega arith)) (omega arith)
+    one_down : (pos 0 -ℤ pos (d.quot + k)) ≡ (pos 0 -ℤ pos d.quot -ℤ pos 1)
+    one_down = omega (za, one, sub# (pos 0) (pos (d.quot + k)), sub# (pos 0) (pos d.quot), sub# (pos 0 -ℤ pos d.quot) (pos 1))
 
-known : (c : After-scaled-d) → Parts (abs c.args.p) c.args.t c.args.w c.scaled-d.result
+known : (c : After-from) → Parts (abs c.args.p) c.args.t c.args.w c.scaled-d.result
 known c = parts_of c.ranges.p c.unsigned_abs.ensures.value c.requires.1 c.requires.2 c.scaled-d.ensures
 
-up_small : (c : After-raised-up) → c.raised-up.result ≤ 100000000000000001
-up_small c = rw c.raised-up.ensures (up_to_le _ c.scaled-d.result.rem (le_trans (known c.before).quot_le c.requires.0))
-
-pub overflow_cast-up : goal.overflow_cast-up
-overflow_cast-up c = omega (za, up_small c)
+up_small : (c : After-from) → c.scaled-d.result.quot + c.from.result ≤ 100000000000000001
+up_small c = let k = (known c).quot_le in grind (arith, common_steps)
 
 pub overflow_sub-result : goal.overflow_sub-result
-overflow_sub-result c = let l = up_small c.before in simp (word _ l) (minus _ l)
+overflow_sub-result c = let l = up_small c.before.before in simp (word _ l) (minus _ l)
 
 pub returns-then-p-lt0 : goal.returns-then-p-lt0
 returns-then-p-lt0 c =
-    let l = up_small c.before in
+    let b = c.before.before in
+    let l = up_small b in
     let z : up c.args.p ≡ 0 = omega (za, back# c.ranges.p, one# c.args.p) in
-    simp (word _ l, to_z-of_z, minus _ l) (rw c.raised-up.ensures (below c.args.p c.args.t c.args.w _ c.scaled-d.result (known c.before.before) z refl))
+    simp (word _ l, to_z-of_z, minus _ l) (below c.args.p c.args.t c.args.w _ _ c.scaled-d.result (known b) z refl c.from.ensures)
 
 pub returns-else-p-lt0 : goal.returns-else-p-lt0
 returns-else-p-lt0 c =
-    let k = parts_of c.ranges.p c.unsigned_abs.ensures.value c.requires.1 c.requires.2 c.scaled-d.ensures in
+    let k = known c.before.before.before in
     let l : c.scaled-d.result.quot ≤ 100000000000000001 = omega (arith, k.quot_le) in
     let z : dn c.args.p ≡ 0 = omega (za, back# c.ranges.p) in
     simp (word _ l) (quot_is (above c.args.p c.args.t c.args.w k z))

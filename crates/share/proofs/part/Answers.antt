@@ -1,5 +1,6 @@
 -- The refusals in their order; past them both floors are no larger than the amount, so their difference is a word.
-use Rattle.std.proofs.Common.{◌≡◌, ◌<◌, ◌≤◌, true, false, ℤ, pos, ◌-ℤ◌, ◌*ℤ◌, nat_abs, ◌≤ℤ◌, sym, ◌∙◌, le_trans, to_z-of_z, w64, SFits}
+use Rattle.std.proofs.Common.{◌≡◌, ◌<◌, ◌≤◌, true, false, ℤ, pos, ◌-ℤ◌, ◌*ℤ◌}
+use Rattle.std.proofs.Common.{nat_abs, ◌≤ℤ◌, sym, ◌∙◌, le_trans, to_z-of_z, w64, SFits}
 use Rattle.ints.specs.Bridge.{abs, abs_is, za, sub#, above#}
 use Rattle.ints.specs.Order.{abs_le, ≤_trans}
 use Rattle.ints.specs.Range.{outside_false}

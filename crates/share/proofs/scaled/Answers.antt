@@ -1,5 +1,6 @@
 -- t is at most w, so the quotient of a × t by w is at most a and fits a word.
-use Rattle.std.proofs.Common.{◌≡◌, ℕ, ◌*◌, ◌/◌, ◌^◌, ◌<◌, ◌≤◌, lt_of_le_of_lt, div-lt_iff_lt-mul, mul-le-mul_left, mul-lt-mul_of_pos_right, ◌∙◌, Ok}
+use Rattle.std.proofs.Common.{◌≡◌, ℕ, ◌*◌, ◌/◌, ◌^◌, ◌<◌, ◌≤◌}
+use Rattle.std.proofs.Common.{lt_of_le_of_lt, div-lt_iff_lt-mul, mul-le-mul_left, mul-lt-mul_of_pos_right, ◌∙◌, Ok}
 use Rattle.wide.specs.Exact.{divided}
 use Rattle.wide.proofs.Laws.{ratio_exact}
 use Rattle.share.proofs.scaled.Goals as goal

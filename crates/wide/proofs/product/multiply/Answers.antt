@@ -1,5 +1,6 @@
 -- a × b = a1·b1·2^64 + (a0·b1 + a1·b0)·2^32 + a0·b0, and the columns with their carries add up to that.
-use Rattle.std.proofs.Common.{◌≡◌, ℕ, ◌+◌, ◌*◌, ◌/◌, ◌%◌, ◌^◌, ◌<◌, ◌≤◌, ap, ◌∙◌, ap₂, mod-lt, mul-le-mul, div-add-mod', arith, pow_pos}
+use Rattle.std.proofs.Common.{◌≡◌, ℕ, ◌+◌, ◌*◌, ◌/◌, ◌%◌, ◌^◌, ◌<◌, ◌≤◌}
+use Rattle.std.proofs.Common.{ap, ◌∙◌, ap₂, mod-lt, mul-le-mul, div-add-mod', arith, pow_pos}
 use mathlib.Core.Path.{subst⁻¹}
 use Rattle.wide.proofs.Laws.{words_is}
 use Rattle.wide.proofs.product.multiply.Goals as goal

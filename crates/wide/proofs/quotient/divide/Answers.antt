@@ -1,5 +1,7 @@
 -- Moved up by s, divisor and dividend are both times S = 2^s: the quotient stays, and the remainder is times S too.
-use Rattle.std.proofs.Common.{◌≡◌, ℕ, suc, ◌+◌, ◌-◌, ◌*◌, ◌/◌, ◌%◌, ◌^◌, ◌<◌, ◌≤◌, sym, ap, ◌∙◌, subst, lt_trans, mul-le-mul_right, mod-lt, mod-eq_of_lt, div-lt_iff_lt-mul, mul-lt-mul_of_pos_right, div-add-mod', mul-div_cancel, arith, pow_pos, pow-add, w64, Fits, rules}
+use Rattle.std.proofs.Common.{◌≡◌, ℕ, suc, ◌+◌, ◌-◌, ◌*◌, ◌/◌, ◌%◌, ◌^◌, ◌<◌, ◌≤◌, sym, ap, ◌∙◌, subst}
+use Rattle.std.proofs.Common.{lt_trans, mul-le-mul_right, mod-lt, mod-eq_of_lt, div-lt_iff_lt-mul, mul-lt-mul_of_pos_right}
+use Rattle.std.proofs.Common.{div-add-mod', mul-div_cancel, arith, pow_pos, pow-add, w64, Fits, rules}
 use native.Mathlib.Nat.{mul-add-div_right}
 use lib.Arith.{digits_mod}
 use lib.Count.{count_leading_zeros, leading_top}

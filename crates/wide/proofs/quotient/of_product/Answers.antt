@@ -1,5 +1,6 @@
 -- The quotient fits a word exactly where the product's high word is below the divisor.
-use Rattle.std.proofs.Common.{◌≡◌, ℕ, ◌+◌, ◌*◌, ◌/◌, ◌^◌, ◌<◌, ◌≤◌, sym, ap, ◌∙◌, subst, lt_of_le_of_lt, div-lt_iff_lt-mul, pos_of_ne-zero, div-add-mod', le-div_iff_mul-le, div-le_self, arith, w64, Fits, rules, Ok}
+use Rattle.std.proofs.Common.{◌≡◌, ℕ, ◌+◌, ◌*◌, ◌/◌, ◌^◌, ◌<◌, ◌≤◌, sym, ap, ◌∙◌, subst}
+use Rattle.std.proofs.Common.{lt_of_le_of_lt, div-lt_iff_lt-mul, pos_of_ne-zero, div-add-mod', le-div_iff_mul-le, div-le_self, arith, w64, Fits, rules, Ok}
 use Rattle.wide.specs.declared.Words.{Words}
 use Rattle.wide.specs.Exact.{divided, ratio, words}
 use Rattle.wide.proofs.Laws.{ratio_by_zero, ratio_exact, ratio_over}

@@ -8,7 +8,7 @@ use Rattle.share.specs.declared.weights.Rate.{Rate}
 use Rattle.share.proofs.Signs.{Parts, parts, above, whole, broken, word, minus, minus_one}
 use Rattle.share.proofs.weights.Rate.at.Goals as goal
 
-module _ (k : Rate) {t : ℕ} {d : Divided} (h : t ≤ k.w) (e : d ≡ divided (abs k.amount * t) k.w) where
+module _ (k : Rate) {t : ℕ} {d : Divided ℕ} (h : t ≤ k.w) (e : d ≡ divided (abs k.amount * t) k.w) where
   known : Parts (abs k.amount) t k.w d
   known = parts (abs k.amount) t k.w d h (omega (arith, k.rated.less)) e
 

@@ -7,7 +7,7 @@ use Rattle.share.specs.declared.weights.Rate.{Rate}
 use Rattle.share.specs.Rate.{share_le, divided_is}
 use Rattle.share.proofs.weights.Rate.size_at.Goals as goal
 
-module _ (k : Rate) {t : ℕ} {d : Divided} (h : t ≤ k.w) (e : d ≡ divided (k.part * t) k.w) where
+module _ (k : Rate) {t : ℕ} {d : Divided ℕ} (h : t ≤ k.w) (e : d ≡ divided (k.part * t) k.w) where
   sum : d.quot * k.w + d.rem ≡ k.part * t
   sum = rw e (div-add-mod' (k.part * t) k.w)
 

@@ -1,6 +1,7 @@
 -- With v = v1·2^29 + v0 and h = q·v1 + t, the dividend and p = q·v0 make q·v and m = t·2^29 + d: so q is the quotient, or one more where
 -- p passes m, which it does by less than v.
-use Rattle.std.proofs.Common.{◌≡◌, ℕ, ◌+◌, ◌-◌, ◌*◌, ◌/◌, ◌%◌, ◌^◌, ◌<◌, ◌≤◌, ap, lt_of_le_of_lt, mul-le-mul_right, mod-lt, mul-le-mul, div-add-mod', sub-le, arith, w64, Fits, rules}
+use Rattle.std.proofs.Common.{◌≡◌, ℕ, ◌+◌, ◌-◌, ◌*◌, ◌/◌, ◌%◌, ◌^◌, ◌<◌, ◌≤◌, ap}
+use Rattle.std.proofs.Common.{lt_of_le_of_lt, mul-le-mul_right, mod-lt, mul-le-mul, div-add-mod', sub-le, arith, w64, Fits, rules}
 use native.Mathlib.Decide.{dec_le}
 use lib.Bits.{bit_and, and_mask}
 use Rattle.wide.specs.declared.quotient.Divisor.{Divisor}
