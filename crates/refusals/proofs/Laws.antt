@@ -25,14 +25,14 @@ pub mm : (m : ℤ) → pos 200001 ≤ℤ m → rem_z m (pos 100) ≡ month_of_ye
 unfolding month_of_year
 mm m h = let z : pos 0 ≤ℤ m = omega za in rem_floor m 100 z
 
--- no user, no kind
-pub no_kind : (users : List User) (user : ℤ) → outside (pos 1) (pos (length users)) user ≡ true → NoKindAt (kind_of users user)
+-- no user, and 0 for its kind
+pub no_kind : (users : List User) (user : ℤ) → outside (pos 1) (pos (length users)) user ≡ true → kind_of users user ≡ pos 0
 unfolding kind_of
-no_kind users (pos zero) e = unfold outside in refl
+no_kind users (pos zero) e = refl
 no_kind users (pos (suc k)) e =
     let past : length users ≤ k = unfold outside in grind (arith, ints) in
-    rw (kind_of, get_or-eq_default users (user_of []) past) (unfold outside in refl)
-no_kind users (negsuc k) e = unfold outside in refl
+    rw (kind_of, get_or-eq_default users (user_of []) past) refl
+no_kind users (negsuc k) e = refl
 
 -- what is found at the index of a user, which is its number less 1
 pub found :

@@ -13,7 +13,7 @@ fn row(users: &[User], p: Point) -> PointRow
     requires { bad_point p ≡ false }
     ensures { result ≡ point_row users.now p }
 {
-    let kind = refusals::points::kind_of(users, p.user);
+    let kind = refusals::points::kind_of(users, p.user).ok();
     let point = PointInRange { point: p };
     PointRow {
         use_charge: point.use_charge(),
