@@ -4,11 +4,13 @@ ghost use Rattle.ints.specs.Bridge.{abs};
 ghost use Rattle.ints.specs.Range.{Within};
 ghost use Rattle.ints.specs.Sums.{Small};
 ghost use Rattle.rules.specs.Most.{most_balance, most_debits, most_own};
+ghost use Rattle.rules.specs.Calendar.{cycle_month, settled_to};
 ghost use Rattle.rules.specs.Credits.{own_credits_from, VCsFrom};
 ghost use Rattle.rules.specs.Lists.{side_by_side};
 ghost use Rattle.rules.specs.Ranges.{Amount};
 ghost use Rattle.credits.specs.Payable.{Payable, AgentCredits};
 
+use crate::agent::Due;
 use rules::{Agent, MonthLine};
 
 // What the credits are worked out from: the total of the users' debits, the last closed month, 0 for none, the month line and the agents.
@@ -42,15 +44,25 @@ fn add_each(parts: &[i64], out: &mut [i64])
 }
 
 impl Payees<'_> {
+    // Which twelfths of the agents' yearly adjustments fall due.
+    pub fn due(&self) -> Due
+        ensures after { result.after ≡ settled_to self.now.last self.now.line.month }
+        ensures upto { result.upto ≡ cycle_month self.now.line.month }
+    {
+        Due {
+            after: crate::cycle::settled_to(self.last, self.line.month),
+            upto: crate::cycle::cycle_month(self.line.month),
+        }
+    }
+
     // Writes VMST + VMPA + ret of each agent.
     fn own_credits(&self, out: &mut [i64])
         requires { length out.old ≡ length self.now.agents.now }
         ensures { out.new ≡ own_credits_from self.now.last self.now.line self.now.agents.now }
     {
-        let b = crate::cycle::settled_to(self.last, self.line.month);
-        let c = crate::cycle::cycle_month(self.line.month);
+        let due = self.due();
         for (i, agent) in self.agents.iter().enumerate() {
-            out[i] = crate::agent::own_credit(b, c, *agent);
+            out[i] = due.own_credit(*agent);
         }
     }
 
