@@ -38,6 +38,7 @@ pub(crate) fn pbs(agents: &[Agent], out: &mut [i64])
     requires { length out.old ≡ length agents.now }
     ensures { out.new ≡ pbs agents.now }
 {
+    // by index: of what a zipped `iter_mut` writes a proof learns nothing
     for (i, agent) in agents.iter().enumerate() {
         out[i] = agent.pb;
     }

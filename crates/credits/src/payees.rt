@@ -56,6 +56,7 @@ impl Payees<'_> {
         ensures { out.new ≡ own_credits_from self.now.last self.now.line self.now.agents.now }
     {
         let due = self.due();
+        // by index: of what a zipped `iter_mut` writes a proof learns nothing
         for (i, agent) in self.agents.iter().enumerate() {
             out[i] = due.own_credit(*agent);
         }

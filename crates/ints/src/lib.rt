@@ -50,6 +50,7 @@ pub fn add_by<T, F: Fn(&T) -> i64>(lines: &[T], out: &mut [i64], amount: F)
     requires fits { Addable of out.old lines.now }
     ensures { out.new ≡ sums of out.old lines.now }
 {
+    // by index: of what a zipped `iter_mut` writes a proof learns nothing
     for (i, x) in lines.iter().enumerate() {
         out[i] += amount(x);
     }

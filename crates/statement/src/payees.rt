@@ -16,6 +16,7 @@ fn rows(payees: &Payees, vmant: &[i64], vc: &[i64], out: &mut [PayeeRow])
     ensures { out.new ≡ agent_rows_of payees.now.last payees.now.line.month vmant.now vc.now payees.now.agents.now }
 {
     let due = payees.due();
+    // by index: of what a zipped `iter_mut` writes a proof learns nothing
     for (i, agent) in payees.agents.iter().enumerate() {
         out[i] = PayeeRow {
             vmst: credits::agent::vmst(*agent),
