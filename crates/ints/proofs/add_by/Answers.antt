@@ -1,5 +1,6 @@
 -- The entry that a line's amount is added to is still as it was; the amount is what the closure gives of the line.
-use Rattle.std.proofs.Common.{◌≡◌, ◌+◌, ◌<◌, ℕ, List, ℤ, sym, ap, ap₂, ◌∙◌, refl, length, get_or, set, pos, ◌+ℤ◌, arith, rules, w64, SFits}
+use Rattle.std.proofs.Common.{◌≡◌, refl, sym, ap, ap₂, ◌∙◌, ℕ, ◌+◌, ◌<◌, List, length, get_or, set, ℤ, pos, ◌+ℤ◌}
+use Rattle.std.proofs.Common.{arith, rules, w64, SFits}
 use Rattle.std.proofs.lemmas.Int.{to_z-of_z}
 use Rattle.ints.specs.Adding.{sums, Addable, length_sums, sum_at}
 use Rattle.ints.specs.Fill.{Filling, filling_next, filling_more, filling_all}
