@@ -7,7 +7,8 @@ use Rattle.rules.specs.Lists.{get_d_map}
 use Rattle.rules.specs.declared.Agent.{Agent}
 use Rattle.rules.specs.Lines.{agent_of}
 
-module _ (f : Agent → ℤ) (agents : List Agent) {sum : ℤ} {i : ℕ} (a : Added (map f agents) sum i) (h : i < length agents) (s : Summable (map f agents)) where
+module _ (f : Agent → ℤ) (agents : List Agent) {sum : ℤ} {i : ℕ} (a : Added (map f agents) sum i) (h : i < length agents)
+    (s : Summable (map f agents)) where
   pub sum_fits : SFits w64 (f (get_or agents i (agent_of []))) → SFits w64 (sum +ℤ back (f (get_or agents i (agent_of []))))
   sum_fits e = rw (to_z-of_z e) (added_fits a s (rw length-map h) (sym (get_d_map f agents i (agent_of []) (pos 0) h)))
 

@@ -7,20 +7,20 @@ ghost use Rattle.rules.specs.Ranges.{Correction, AmountsFit, Twelfths};
 
 use rules::Agent;
 
+// Which twelfths of a yearly adjustment fall due: those after the cycle month `after`, to which it is settled, up to the month's, `upto`.
+#[derive(Clone, Copy)]
+pub struct Due {
+    pub after: i64,
+    pub upto: i64,
+    pub ghost twelfths: { Twelfths after upto },
+}
+
 // Twelfths rounded down: `/` cuts towards zero.
 #[tactic(auto, using(crate::proofs::Euclid::floor_is_euclid))]
 fn floor_12(x: i64) -> i64
     ensures { result ≡ floor x (pos 12) }
 {
     x.div_euclid(12)
-}
-
-// VMPA: what falls due of a yearly adjustment after cycle month b, up to c.
-pub fn vmpa(b: i64, c: i64, pa: i64) -> i64
-    requires { Twelfths b c × Correction pa }
-    ensures { (a : Agent) → a.pa ≡ pa → result ≡ VMPA b c a }
-{
-    floor_12(pa * c) - floor_12(pa * b)
 }
 
 // VMST = pb − pv + afs − rfs.
@@ -31,10 +31,20 @@ pub fn vmst(agent: Agent) -> i64
     agent.pb - agent.pv + agent.afs - agent.rfs
 }
 
-// VMST + VMPA + ret.
-pub(crate) fn own_credit(b: i64, c: i64, agent: Agent) -> i64
-    requires { Twelfths b c × AmountsFit agent }
-    ensures { result ≡ own_credit b c agent }
-{
-    vmst(agent) + vmpa(b, c, agent.pa) + agent.ret
+impl Due {
+    // VMPA: what falls due of a yearly adjustment.
+    pub fn vmpa(self, pa: i64) -> i64
+        requires { Correction pa }
+        ensures { (a : Agent) → a.pa ≡ pa → result ≡ VMPA self.after self.upto a }
+    {
+        floor_12(pa * self.upto) - floor_12(pa * self.after)
+    }
+
+    // VMST + VMPA + ret.
+    pub(crate) fn own_credit(self, agent: Agent) -> i64
+        requires { AmountsFit agent }
+        ensures { result ≡ own_credit self.after self.upto agent }
+    {
+        vmst(agent) + self.vmpa(agent.pa) + agent.ret
+    }
 }

@@ -1,5 +1,6 @@
-// Columns of the agent lines, and their sums. By `ints::total_by` these would not prove: its search misses that the amounts of lines in
-// their ranges are summable, and the kit takes no answer there.
+// Columns of the agent lines, and their sums. By `ints::total_by` these would not prove. All that it asks of a call is one goal: the
+// search knows the closure but not that amounts in their ranges are summable, a `grind` that is given this (`using`) not the closure,
+// in a generic function over both columns the kit cannot pick `of`, and an answer of ours does not count (two bugs of the kit).
 ghost use Rattle.std.specs.Prelude.{◌≡◌, length};
 ghost use Rattle.ints.specs.Sums.{sum_ℤ};
 ghost use Rattle.rules.specs.Charges.{pvs};
@@ -37,6 +38,7 @@ pub(crate) fn pbs(agents: &[Agent], out: &mut [i64])
     requires { length out.old ≡ length agents.now }
     ensures { out.new ≡ pbs agents.now }
 {
+    // by index: of what a zipped `iter_mut` writes a proof learns nothing
     for (i, agent) in agents.iter().enumerate() {
         out[i] = agent.pb;
     }

@@ -5,7 +5,7 @@ ghost use Rattle.rules.specs.Ranges.{MonthAfter};
 
 // Cycle month: July 1 to June 12; any other number has 0, as in the definition. A possible month is above 0, where % is mm.
 #[tactic(auto, using(crate::proofs::Months::cycle_month_at, crate::proofs::Months::twelve))]
-pub fn cycle_month(month: i64) -> i64
+pub(crate) fn cycle_month(month: i64) -> i64
     requires { impossible_month month ≡ false }
     ensures { result ≡ cycle_month month }
 {
@@ -40,7 +40,7 @@ fn cycle(month: i64) -> i64
 
 // The cycle month that adjustments are settled to when the month closes, `last` being the last closed month, 0 for none, as the
 // ledger has it.
-pub fn settled_to(last: i64, month: i64) -> i64
+pub(crate) fn settled_to(last: i64, month: i64) -> i64
     requires { MonthAfter last month }
     ensures { result ≡ settled_to last month }
 {

@@ -3,5 +3,5 @@
 
 pub mod agent;
 pub mod columns;
-pub mod cycle;
+mod cycle;
 pub mod payees;

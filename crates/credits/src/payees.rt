@@ -1,14 +1,15 @@
 // The credits of a month's payees.
-ghost use Rattle.std.specs.Prelude.{◌+◌, ◌≤◌, ◌≡◌, pos, ◌+ℤ◌, ◌-ℤ◌, length};
+ghost use Rattle.std.specs.Prelude.{◌+◌, ◌≤◌, ◌≡◌, ℤ, pos, ◌-ℤ◌, length};
+ghost use Rattle.ints.specs.Adding.{Addable, sums};
 ghost use Rattle.ints.specs.Bridge.{abs};
 ghost use Rattle.ints.specs.Range.{Within};
-ghost use Rattle.ints.specs.Sums.{Small};
-ghost use Rattle.rules.specs.Most.{most_balance, most_debits, most_own};
+ghost use Rattle.rules.specs.Most.{most_debits, most_own};
+ghost use Rattle.rules.specs.Calendar.{cycle_month, settled_to};
 ghost use Rattle.rules.specs.Credits.{own_credits_from, VCsFrom};
-ghost use Rattle.rules.specs.Lists.{side_by_side};
 ghost use Rattle.rules.specs.Ranges.{Amount};
 ghost use Rattle.credits.specs.Payable.{Payable, AgentCredits};
 
+use crate::agent::Due;
 use rules::{Agent, MonthLine};
 
 // What the credits are worked out from: the total of the users' debits, the last closed month, 0 for none, the month line and the agents.
@@ -29,28 +30,35 @@ fn smse(debits: i64, own: i64, ons: i64) -> i64
     debits - own - ons
 }
 
-// Adds each part to its entry.
+// Adds each part to its entry. Apart from `agent_credits`: what `add_by` asks can be found by the kit, but not answered by us.
 fn add_each(parts: &[i64], out: &mut [i64])
-    requires { Small most_balance parts.now
-        × Small 400000000000 out.old
-        × (length parts.now ≡ length out.old) }
-    ensures { out.new ≡ side_by_side ◌+ℤ◌ out.old parts.now }
+    requires { Addable (λ (x : ℤ). x) out.old parts.now }
+    ensures { out.new ≡ sums (λ (x : ℤ). x) out.old parts.now }
 {
-    for (i, part) in parts.iter().enumerate() {
-        out[i] += *part;
-    }
+    ints::add_by(parts, out, |part| *part);
 }
 
 impl Payees<'_> {
+    // Which twelfths of the agents' yearly adjustments fall due.
+    pub fn due(&self) -> Due
+        ensures after { result.after ≡ settled_to self.now.last self.now.line.month }
+        ensures upto { result.upto ≡ cycle_month self.now.line.month }
+    {
+        Due {
+            after: crate::cycle::settled_to(self.last, self.line.month),
+            upto: crate::cycle::cycle_month(self.line.month),
+        }
+    }
+
     // Writes VMST + VMPA + ret of each agent.
     fn own_credits(&self, out: &mut [i64])
         requires { length out.old ≡ length self.now.agents.now }
         ensures { out.new ≡ own_credits_from self.now.last self.now.line self.now.agents.now }
     {
-        let b = crate::cycle::settled_to(self.last, self.line.month);
-        let c = crate::cycle::cycle_month(self.line.month);
+        let due = self.due();
+        // by index: of what a zipped `iter_mut` writes a proof learns nothing
         for (i, agent) in self.agents.iter().enumerate() {
-            out[i] = crate::agent::own_credit(b, c, *agent);
+            out[i] = due.own_credit(*agent);
         }
     }
 

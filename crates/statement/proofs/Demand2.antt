@@ -28,13 +28,16 @@ module _ (c : StateCall) (o : Promised c) (a : verdict_of c.answer ≡ accepted)
   front : {A : Type 0} (n : ℕ) (rows lent left : List A) → length rows ≡ n → left ≡ rows ++ drop n lent → take n left ≡ rows
   front n rows lent left e w = ap (take n) w ∙ take_at rows (drop n lent) n e
 
-  of_points : (field : PointRow → ℤ) {xs : List ℤ} → map field (point_rows c.lines) ≡ xs → map field (take (length c.lines.points) c.points_left) ≡ xs
+  of_points : (field : PointRow → ℤ) {xs : List ℤ} → map field (point_rows c.lines) ≡ xs
+      → map field (take (length c.lines.points) c.points_left) ≡ xs
   of_points field x = ap (map field) (front _ (point_rows c.lines) c.points c.points_left (point_count c) (accepted_so c o a).rows_of_points) ∙ x
 
-  of_users : (field : UserRow → ℤ) {xs : List ℤ} → map field (user_rows s c.lines) ≡ xs → map field (take (length c.lines.users) c.users_left) ≡ xs
+  of_users : (field : UserRow → ℤ) {xs : List ℤ} → map field (user_rows s c.lines) ≡ xs
+      → map field (take (length c.lines.users) c.users_left) ≡ xs
   of_users field x = ap (map field) (front _ (user_rows s c.lines) c.users c.users_left (user_count c) (accepted_so c o a).rows_of_users) ∙ x
 
-  of_payees : (field : PayeeRow → ℤ) {xs : List ℤ} → map field (payee_rows s c.lines) ≡ xs → map field (take (length c.lines.agents + 1) c.payees_left) ≡ xs
+  of_payees : (field : PayeeRow → ℤ) {xs : List ℤ} → map field (payee_rows s c.lines) ≡ xs
+      → map field (take (length c.lines.agents + 1) c.payees_left) ≡ xs
   of_payees field x = ap (map field) (front _ (payee_rows s c.lines) c.payees c.payees_left (payee_count c) (accepted_so c o a).rows_of_payees) ∙ x
 
   pub demand_2 : Demand2Stating c s

@@ -19,7 +19,8 @@ use Rattle.statement.specs.Statement.{at, user_rows_of, agent_rows_of}
 use Rattle.statement.specs.Columns.{ColumnsFit, user_rows_by}
 
 -- counted from 0
-pub each_at : {A B : Type 0} (f : ℕ → A → B) (xs : List A) (i : ℕ) (a : A) (b : B) → i < length xs → get_or (each_from 0 f xs) i b ≡ f i (get_or xs i a)
+pub each_at : {A B : Type 0} (f : ℕ → A → B) (xs : List A) (i : ℕ) (a : A) (b : B) → i < length xs
+    → get_or (each_from 0 f xs) i b ≡ f i (get_or xs i a)
 each_at f xs i a b h = get_or_each_from 0 f xs i a b h ∙ ap (λ (k : ℕ). f k (get_or xs i a)) (omega arith)
 
 -- ---- of the users
@@ -50,7 +51,8 @@ module _ {users : List User} {c : Columns} {out : List UserRow} (r : ColumnsFit 
       let both = length_side_by_side ◌-ℤ◌ c.vme.now c.cpv.now same in
       get_or_side_by_side ◌-ℤ◌ (side_by_side ◌-ℤ◌ c.vme.now c.cpv.now) c.held.now i (pos 0) (pos 0) (pos 0) (both ∙ sym r.amounts.held_count)
       (omega (arith, both, r.vme_count))
-      ∙ ap (λ (x : ℤ). x -ℤ at c.held.now i) (get_or_side_by_side ◌-ℤ◌ c.vme.now c.cpv.now i (pos 0) (pos 0) (pos 0) same (omega (arith, r.vme_count)))
+      ∙ ap (λ (x : ℤ). x -ℤ at c.held.now i)
+      (get_or_side_by_side ◌-ℤ◌ c.vme.now c.cpv.now i (pos 0) (pos 0) (pos 0) same (omega (arith, r.vme_count)))
 
   pub user_row_at : (d : UserRow) → get_or (user_rows_by users c) i d ≡ user_row (get_or users i (user_of [])) c i
   unfolding user_rows_of

@@ -2,30 +2,25 @@
 ghost use Rattle.std.specs.Prelude.{◌+◌, ◌≡◌, pos, length};
 ghost use Rattle.ints.specs.Range.{Within};
 ghost use Rattle.rules.specs.Most.{most_direct};
-ghost use Rattle.rules.specs.Ranges.{MonthAfter};
-ghost use Rattle.credits.specs.Columns.{AgentLines};
 ghost use Rattle.statement.specs.Statement.{agent_rows_of};
 ghost use Rattle.statement.specs.Columns.{StatesPayees};
 
 use crate::PayeeRow;
 use credits::payees::Payees;
-use rules::Agent;
 
 // Writes a row for each agent, from its line and the columns.
-fn rows(last: i64, month: i64, agents: &[Agent], vmant: &[i64], vc: &[i64], out: &mut [PayeeRow])
-    requires { MonthAfter last month
-        × AgentLines agents.now
-        × (length vmant.now ≡ length agents.now)
-        × (length vc.now ≡ length agents.now)
-        × (length out.old ≡ length agents.now) }
-    ensures { out.new ≡ agent_rows_of last month vmant.now vc.now agents.now }
+fn rows(payees: &Payees, vmant: &[i64], vc: &[i64], out: &mut [PayeeRow])
+    requires { (length vmant.now ≡ length payees.now.agents.now)
+        × (length vc.now ≡ length payees.now.agents.now)
+        × (length out.old ≡ length payees.now.agents.now) }
+    ensures { out.new ≡ agent_rows_of payees.now.last payees.now.line.month vmant.now vc.now payees.now.agents.now }
 {
-    let b = credits::cycle::settled_to(last, month);
-    let c = credits::cycle::cycle_month(month);
-    for (i, agent) in agents.iter().enumerate() {
+    let due = payees.due();
+    // by index: of what a zipped `iter_mut` writes a proof learns nothing
+    for (i, agent) in payees.agents.iter().enumerate() {
         out[i] = PayeeRow {
             vmst: credits::agent::vmst(*agent),
-            vmpa: credits::agent::vmpa(b, c, agent.pa),
+            vmpa: due.vmpa(agent.pa),
             vmant: vmant[i],
             ret: agent.ret,
             vc: vc[i],
@@ -47,21 +42,11 @@ pub(crate) fn state_payees(payees: &Payees, direct: i64, out: &mut [PayeeRow]) -
     let vmant = &mut all_vmant[..n];
     let vc = &mut all_vc[..n];
     let balance = payees.agent_credits(&mut pb[..n], vmant, vc);
-    rows(
-        payees.last,
-        payees.line.month,
-        payees.agents,
-        vmant,
-        vc,
-        &mut out[..n],
-    );
+    rows(payees, vmant, vc, &mut out[..n]);
     out[n] = PayeeRow {
-        vmst: 0,
-        vmpa: 0,
-        vmant: 0,
-        ret: 0,
         vc: payees.line.ons + direct,
         shared: payees.line.ons,
+        ..PayeeRow::default()
     };
     balance
 }

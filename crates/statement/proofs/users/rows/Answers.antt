@@ -38,9 +38,10 @@ loop-i-preserved c =
     let f₅ : SFits w64 (at a.credits.now i) = search rules in
     let f₆ : SFits w64 user.ong = search rules in
     let n = to_z-of_z f₃ ∙ (rw (to_z-of_z w.0.fits, to_z-of_z w.1.fits, to_z-of_z w.2.fits) at c.net-due.ensures) in
-    rw (to_z-of_z f₀, to_z-of_z f₁, to_z-of_z f₂, to_z-of_z w.0.fits, to_z-of_z w.1.fits, to_z-of_z w.2.fits, n, to_z-of_z f₄, to_z-of_z f₅, to_z-of_z f₆)
+    rw (to_z-of_z f₀, to_z-of_z f₁, to_z-of_z f₂)
+    (rw (to_z-of_z w.0.fits, to_z-of_z w.1.fits, to_z-of_z w.2.fits, n, to_z-of_z f₄, to_z-of_z f₅, to_z-of_z f₆)
     (filling_more (count c.requires) c.loop-i.invariant (user_row user a i) (omega (arith, c.requires.out_count))
-    (sym (user_row_at c.requires i h _)))
+    (sym (user_row_at c.requires i h _))))
 
 pub returns : goal.returns
 returns c = filling_all (count c.requires) c.loop-i.invariant (omega (arith, c.requires.out_count))

@@ -1,14 +1,18 @@
 -- Each call's answer as a definition of the month, in the order of the calls.
-use Rattle.std.proofs.Common.{◌≡◌, List, length, ℤ, ◌-ℤ◌, ap, ◌∙◌, to_z-of_z}
+use Rattle.std.proofs.Common.{◌≡◌, List, [], ◌∷◌, length, get_or, ℤ, pos, ◌+ℤ◌, ◌-ℤ◌, refl, ap, ◌∙◌, arith, to_z-of_z}
 use Rattle.std.proofs.lemmas.List.{length-map}
 use Rattle.ints.specs.Bounds.{word_abs}
-use Rattle.ints.specs.Sums.{sum_ℤ}
+use Rattle.ints.specs.Adding.{Addable, sums, sum_at}
+use Rattle.ints.specs.Bridge.{za, add#}
+use Rattle.ints.specs.Sums.{sum_ℤ, Small}
 use Rattle.ints.specs.Words.{back}
 use Rattle.share.proofs.Laws.{length_share}
 use Rattle.share.specs.Running.{running_share}
 use Rattle.rules.specs.declared.MonthLine.{MonthLine}
 use Rattle.rules.specs.declared.Agent.{Agent}
 use Rattle.rules.specs.Credits.{own_credits_from, SMSEFrom, pbs, VMANTsFrom, agent_VCs_from}
+use Rattle.rules.specs.Lists.{side_by_side}
+use Rattle.rules.specs.Most.{most_balance}
 use Rattle.rules.proofs.BoundsAgent.{amount}
 use Rattle.credits.specs.Payable.{Payable}
 use Rattle.credits.proofs.Amounts.{own_small, own_summable, own_total, pb_total, balance, fillable, parts_within, owed}
@@ -38,6 +42,21 @@ module _ {debits last : ℤ} {line : MonthLine} {agents : List Agent} (p : Payab
   unfolding VMANTsFrom own_credits_from
   long = length_share (SMSEFrom debits last line agents) (pbs agents) ∙ simp length-map
 
+-- each agent's own credit and its part of the balance
+sums_are : (own parts : List ℤ) → sums (λ (x : ℤ). x) own parts ≡ side_by_side ◌+ℤ◌ own parts
+unfolding side_by_side
+sums_are [] parts = refl
+sums_are (x ∷ own) [] = refl
+sums_are (x ∷ own) (y ∷ parts) = ap (λ (xs : List ℤ). (x +ℤ y) ∷ xs) (sums_are own parts)
+
+addable : {own parts : List ℤ} → length parts ≡ length own → Small 400000000000 own → Small most_balance parts → Addable (λ (x : ℤ). x) own parts
+addable {own} {parts} e s t = record {
+  as_many = e;
+  fits = λ i h.
+      rw (sum_at (λ (x : ℤ). x) own parts e i (pos 0) h)
+      (omega (za, s.small i h, t.small i (omega (arith, e)), add# (get_or own i (pos 0)) (get_or parts i (pos 0))));
+}
+
 pub total-requires : goal.total-requires
 total-requires c =
     let p = c.args.self.now.payable in
@@ -60,7 +79,7 @@ pub add_each-requires : goal.add_each-requires
 add_each-requires c =
     let p = c.args.self.now.payable in
     let b = balance_is p (c.total.ensures ∙ ap sum_ℤ c.own_credits.ensures) c.smse-balance.ensures in
-    rw (parts_are p b c.pbs.ensures c.fill.ensures, c.own_credits.ensures) (parts_within p, own_small p.lines _ _ p.months, long p)
+    rw (parts_are p b c.pbs.ensures c.fill.ensures, c.own_credits.ensures) (addable (long p) (own_small p.lines _ _ p.months) (parts_within p))
 
 pub returns : goal.returns
 unfolding agent_VCs_from
@@ -72,5 +91,5 @@ returns c =
       SMSE = rw b (to_z-of_z (balance p).fits);
       weights = c.pbs.ensures;
       VMANTs = parts;
-      VCs = rw (parts, c.own_credits.ensures) at c.add_each.ensures;
+      VCs = (rw (parts, c.own_credits.ensures) at c.add_each.ensures) ∙ sums_are _ _;
     }

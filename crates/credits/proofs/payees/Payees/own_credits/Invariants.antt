@@ -5,4 +5,4 @@ use Rattle.rules.specs.Credits.{own_credit}
 use Rattle.credits.proofs.payees.Payees.own_credits.Given as goal
 
 abbrev pub invariant-loop-i : goal.invariant-loop-i
-invariant-loop-i l = Filling (map (own_credit l.b l.c) l.self.agents.now) l.initial.out l.out l.i
+invariant-loop-i l = Filling (map (own_credit l.due.after l.due.upto) l.self.agents.now) l.initial.out l.out l.i
