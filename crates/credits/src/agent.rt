@@ -3,7 +3,8 @@ ghost use Rattle.std.specs.Prelude.{◌≡◌, pos};
 ghost use Rattle.ints.specs.Floor.{floor};
 ghost use Rattle.rules.specs.declared.Agent.{Agent};
 ghost use Rattle.rules.specs.Credits.{VMPA, VMST, own_credit};
-ghost use Rattle.rules.specs.Ranges.{Correction, AmountsFit, Twelfths};
+ghost use Rattle.rules.specs.Calendar.{cycle_month, settled_to};
+ghost use Rattle.rules.specs.Ranges.{Correction, AmountsFit, MonthAfter, Twelfths};
 
 use rules::Agent;
 
@@ -32,6 +33,18 @@ pub fn vmst(agent: Agent) -> i64
 }
 
 impl Due {
+    // When the month closes, `last` being the last closed month, 0 for none, as the ledger has it.
+    pub fn of(last: i64, month: i64) -> Due
+        requires { MonthAfter last month }
+        ensures after { result.after ≡ settled_to last month }
+        ensures upto { result.upto ≡ cycle_month month }
+    {
+        Due {
+            after: crate::cycle::settled_to(last, month),
+            upto: crate::cycle::cycle_month(month),
+        }
+    }
+
     // VMPA: what falls due of a yearly adjustment.
     pub fn vmpa(self, pa: i64) -> i64
         requires { Correction pa }

@@ -4,7 +4,6 @@ ghost use Rattle.ints.specs.Adding.{Addable, sums};
 ghost use Rattle.ints.specs.Bridge.{abs};
 ghost use Rattle.ints.specs.Range.{Within};
 ghost use Rattle.rules.specs.Most.{most_debits, most_own};
-ghost use Rattle.rules.specs.Calendar.{cycle_month, settled_to};
 ghost use Rattle.rules.specs.Credits.{own_credits_from, VCsFrom};
 ghost use Rattle.rules.specs.Ranges.{Amount};
 ghost use Rattle.credits.specs.Payable.{Payable, AgentCredits};
@@ -39,23 +38,12 @@ fn add_each(parts: &[i64], out: &mut [i64])
 }
 
 impl Payees<'_> {
-    // Which twelfths of the agents' yearly adjustments fall due.
-    pub fn due(&self) -> Due
-        ensures after { result.after ≡ settled_to self.now.last self.now.line.month }
-        ensures upto { result.upto ≡ cycle_month self.now.line.month }
-    {
-        Due {
-            after: crate::cycle::settled_to(self.last, self.line.month),
-            upto: crate::cycle::cycle_month(self.line.month),
-        }
-    }
-
     // Writes VMST + VMPA + ret of each agent.
     fn own_credits(&self, out: &mut [i64])
         requires { length out.old ≡ length self.now.agents.now }
         ensures { out.new ≡ own_credits_from self.now.last self.now.line self.now.agents.now }
     {
-        let due = self.due();
+        let due = Due::of(self.last, self.line.month);
         // by index: of what a zipped `iter_mut` writes a proof learns nothing
         for (i, agent) in self.agents.iter().enumerate() {
             out[i] = due.own_credit(*agent);

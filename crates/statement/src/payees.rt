@@ -6,6 +6,7 @@ ghost use Rattle.statement.specs.Statement.{agent_rows_of};
 ghost use Rattle.statement.specs.Columns.{StatesPayees};
 
 use crate::PayeeRow;
+use credits::agent::Due;
 use credits::payees::Payees;
 
 // Writes a row for each agent, from its line and the columns.
@@ -15,7 +16,7 @@ fn rows(payees: &Payees, vmant: &[i64], vc: &[i64], out: &mut [PayeeRow])
         × (length out.old ≡ length payees.now.agents.now) }
     ensures { out.new ≡ agent_rows_of payees.now.last payees.now.line.month vmant.now vc.now payees.now.agents.now }
 {
-    let due = payees.due();
+    let due = Due::of(payees.last, payees.line.month);
     // by index: of what a zipped `iter_mut` writes a proof learns nothing
     for (i, agent) in payees.agents.iter().enumerate() {
         out[i] = PayeeRow {

@@ -17,6 +17,8 @@ loop-i-preserved c =
     let i = c.loop-i.i in
     let agent = get_or p.agents.now i (agent_of []) in
     let here = c.loop-i-test.true in
+    let last : SFits w64 p.last = search rules in
+    let month : SFits w64 p.line.month = search rules in
     let f₀ : SFits w64 c.vmst.result = search rules in
     let f₁ : SFits w64 c.vmpa.result = search rules in
     let f₂ : SFits w64 (get_or a.vmant.now i (pos 0)) = search rules in
@@ -24,7 +26,7 @@ loop-i-preserved c =
     let f₄ : SFits w64 (get_or a.vc.now i (pos 0)) = search rules in
     let pa = to_z-of_z (correction (p.payable.lines.line i here).pa).fits in
     let vmst = to_z-of_z f₀ ∙ c.vmst.ensures in
-    let vmpa = to_z-of_z f₁ ∙ (rw (c.due-due.ensures.after, c.due-due.ensures.upto) at (c.vmpa.ensures agent (sym pa))) in
+    let vmpa = to_z-of_z f₁ ∙ (rw (c.of-due.ensures.after, c.of-due.ensures.upto, to_z-of_z last, to_z-of_z month) at (c.vmpa.ensures agent (sym pa))) in
     let same = length_agent_rows p.last p.line.month a.vmant.now a.vc.now p.agents.now ∙ sym c.requires.2 in
     rw (vmst, vmpa, to_z-of_z f₂, to_z-of_z f₃, to_z-of_z f₄)
     (filling_more same c.loop-i.invariant (agent_row p.last p.line.month a.vmant.now a.vc.now agent i) (omega (arith, c.requires.2))

@@ -17,5 +17,7 @@ loop-i-preserved c =
 pub returns : goal.returns
 unfolding own_credits_from
 returns c =
-    rw (c.due-due.ensures.after, c.due-due.ensures.upto) at
+    let last : SFits w64 c.args.self.now.last = search rules in
+    let month : SFits w64 c.args.self.now.line.month = search rules in
+    rw (c.of-due.ensures.after, c.of-due.ensures.upto, to_z-of_z last, to_z-of_z month) at
     (filling_all (rw length-map (sym c.requires)) c.loop-i.invariant (omega (arith, c.requires)))
