@@ -9,7 +9,7 @@ ghost use Rattle.rules.specs.Ranges.{Amount};
 ghost use Rattle.credits.specs.Payable.{Payable, AgentCredits};
 
 use crate::agent::Due;
-use rules::{Agent, MonthLine};
+use rules::{AGENTS, Agent, MonthLine};
 
 // What the credits are worked out from: the total of the users' debits, the last closed month, 0 for none, the month line and the agents.
 #[derive(Clone, Copy)]
@@ -73,8 +73,8 @@ impl Payees<'_> {
     {
         // room for the most agents: nothing is allocated
         let n = self.agents.len();
-        let mut pb = [0; 256];
-        let mut vmant = [0; 256];
+        let mut pb = [0; AGENTS];
+        let mut vmant = [0; AGENTS];
         self.agent_credits(&mut pb[..n], &mut vmant[..n], &mut vc[..n]);
         vc[n] = self.line.ons;
     }

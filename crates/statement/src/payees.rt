@@ -8,6 +8,7 @@ ghost use Rattle.statement.specs.Columns.{StatesPayees};
 use crate::PayeeRow;
 use credits::agent::Due;
 use credits::payees::Payees;
+use rules::AGENTS;
 
 // Writes a row for each agent, from its line and the columns.
 fn rows(payees: &Payees, vmant: &[i64], vc: &[i64], out: &mut [PayeeRow])
@@ -37,9 +38,9 @@ pub(crate) fn state_payees(payees: &Payees, direct: i64, out: &mut [PayeeRow]) -
 {
     // room for the most agents: nothing is allocated
     let n = payees.agents.len();
-    let mut pb = [0; 256];
-    let mut all_vmant = [0; 256];
-    let mut all_vc = [0; 256];
+    let mut pb = [0; AGENTS];
+    let mut all_vmant = [0; AGENTS];
+    let mut all_vc = [0; AGENTS];
     let vmant = &mut all_vmant[..n];
     let vc = &mut all_vc[..n];
     let balance = payees.agent_credits(&mut pb[..n], vmant, vc);

@@ -8,7 +8,7 @@ ghost use Rattle.statement.specs.Columns.{ColumnsFit, user_rows_by};
 
 use crate::UserRow;
 use closing::judge::Judged;
-use rules::User;
+use rules::{USERS, User};
 
 // What users are charged and owe, column by column: an entry for each user. Columns, since `share::fill` and the table of cells take them.
 #[derive(Clone, Copy)]
@@ -64,8 +64,8 @@ pub(crate) fn state_users(
     let uses = &judged.sums.uses[..n];
     let overruns = &judged.sums.overruns[..n];
     // room for the most users: nothing is allocated
-    let mut all_vme = [0; 512];
-    let mut all_cpv = [0; 512];
+    let mut all_vme = [0; USERS];
+    let mut all_cpv = [0; USERS];
     let vme = &mut all_vme[..n];
     let cpv = &mut all_cpv[..n];
     charges::month::charge(users, uses, overruns, vme);
