@@ -13,7 +13,6 @@ ghost use Rattle.rules.specs.Table.{Table};
 ghost use Rattle.cells.specs.Finish.{Fillable, PostAsks, Posted};
 
 use marks::{MARKED, Marking};
-use search::Unvisited;
 
 // The most payees and users of a table.
 const PAYEES: usize = 257;
@@ -63,9 +62,11 @@ pub fn fill(vc: &[i64], vd: &[i64], cells: &mut [i64], work: &mut [u64])
     };
     table.floors(vc, debits, w, cells, &mut lefts[..n]);
     table.deal(&mut counts[..m + 1]);
-    table.place(&mut Unvisited {
-        rows: &mut rows[..m],
-        columns: &mut columns[..n],
-    });
-    post(cells, table.marks);
+    let mut search = search::Search {
+        open_rows: &mut rows[..m],
+        open_columns: &mut columns[..n],
+        table,
+    };
+    search.place();
+    post(cells, search.table.marks);
 }

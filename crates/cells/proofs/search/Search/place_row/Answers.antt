@@ -1,8 +1,8 @@
 -- The visit begins with every row and every column open, so it finds a mark.
 use Rattle.std.proofs.Common.{◌≡◌, ◌∙◌, length, replicate, true, arith, rules}
 use Rattle.cells.specs.Place.{kept_more, placing_on}
-use Rattle.cells.specs.Unvisited.{opened_all}
-use Rattle.cells.proofs.marks.Marking.place_row.Goals as goal
+use Rattle.cells.specs.Searching.{opened_all}
+use Rattle.cells.proofs.search.Search.place_row.Goals as goal
 
 pub loop-self-preserved : goal.loop-self-preserved
 loop-self-preserved c =
@@ -12,8 +12,8 @@ loop-self-preserved c =
     let K = I.2.kept in
     let v = c.visit_row in
     let k = v.ensures.0 in
-    let rows : c.fill.new.self ≡ replicate (length l.unvisited.rows.now) true = search rules in
-    let columns : c.fill-in-loop-self.new.self ≡ replicate (length l.unvisited.columns.now) true = search rules in (
+    let rows : c.fill.new.self ≡ replicate (length l.self.open_rows.now) true = search rules in
+    let columns : c.fill-in-loop-self.new.self ≡ replicate (length l.self.open_columns.now) true = search rules in (
       k.rows ∙ c.fill.auto.self ∙ I.0,
       k.columns ∙ c.fill-in-loop-self.auto.self ∙ I.1,
       rw k.lacks
