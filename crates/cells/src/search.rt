@@ -80,12 +80,12 @@ impl Search<'_> {
         requires { IsWanted self.old × (i < length self.old.open_rows.now) }
         ensures { PlacesRow self.old self.new i }
     {
-        while self.table.lacks[i] > 0 {
+        for _ in 0..self.table.lacks[i] {
             self.open_rows.fill(true);
             self.open_columns.fill(true);
             self.visit_row(i);
-            self.table.lacks[i] -= 1;
         }
+        self.table.lacks[i] = 0;
     }
 
     // Gives every row and every column the marks that it wants. Only broken cells are marked.
