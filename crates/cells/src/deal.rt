@@ -1,22 +1,22 @@
 // Marks dealt row by row to the columns that want most. Where no cell is whole this places them all; what it cannot place is left to
 // the search, so that nothing here promises more than that every total is kept.
-ghost use Rattle.std.specs.Prelude.{◌≡◌, ◌+◌, ◌*◌, ◌<◌, ◌≤◌, length};
+ghost use Rattle.std.specs.Prelude.{◌≡◌, ◌+◌, ◌*◌, ◌<◌, ◌≤◌, length, IfSome};
 ghost use Rattle.cells.specs.Marking.{IsGrid, KeepsTotals};
 
 use super::marks::{BROKEN, MARKED, Marking};
 
-// The largest level at which at least k columns want that many marks or more; 1 where there is none.
-fn level(counts: &[u64], k: u64) -> u64
-    ensures { (0 < result) × (result ≤ length counts.now + 1) }
+// The largest level above 1 at which at least k columns want that many marks or more, if there is one.
+fn level(counts: &[u64], k: u64) -> Option<u64>
+    ensures { IfSome result (λ t. (1 < t) × (t < length counts.now)) }
 {
     let mut left = k;
-    for t in (2..counts.len()).rev() {
-        if counts[t] >= left {
-            return t as u64;
+    for (t, &count) in counts.iter().enumerate().skip(2).rev() {
+        if count >= left {
+            return Some(t as u64);
         }
-        left -= counts[t];
+        left -= count;
     }
-    1
+    None
 }
 
 impl Marking<'_> {
@@ -56,7 +56,7 @@ impl Marking<'_> {
         ensures { KeepsTotals self.old self.new }
     {
         self.count_wants(i, counts);
-        let l = level(counts, self.lacks[i]);
+        let l = level(counts, self.lacks[i]).unwrap_or(1);
         self.take(i, l + 1);
         self.take(i, l);
     }
