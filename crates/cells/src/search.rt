@@ -5,7 +5,6 @@ ghost use Rattle.cells.specs.Searching.{IsShape, FreeIn, VisitsRow, VisitsColumn
 use super::marks::{BROKEN, MARKED, Marking};
 
 // A table under search, and which of its rows and columns are open: those that the search has not visited.
-// open_rows is first: elsewhere LLVM reads its pointer anew for each row, and the longest searches take half as long again.
 #[derive(Drop)]
 pub(crate) struct Search<'a> {
     pub open_rows: &'a mut [bool],
@@ -20,6 +19,7 @@ impl Search<'_> {
         ensures { FreeIn self.now i result }
     {
         let n = self.open_columns.len();
+        // best and most by hand: `filter` with `min_by_key` of a `Reverse` was proved too, and the longest searches took an eighth longer
         let mut best = None;
         let mut most = 0;
         for (j, &want) in self.table.wants.iter().enumerate() {
