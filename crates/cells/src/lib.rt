@@ -32,6 +32,7 @@ fn post(cells: &mut [i64], marks: &[u64])
     requires { PostAsks cells.old marks.now }
     ensures { Posted cells.old marks.now cells.new (length cells.old) }
 {
+    // by index: of what a zipped `iter_mut` writes a proof learns nothing
     for (i, &mark) in marks.iter().enumerate() {
         cells[i] += cent(mark);
     }
@@ -46,6 +47,7 @@ pub fn fill(vc: &[i64], vd: &[i64], cells: &mut [i64], work: &mut [u64])
 {
     let m = vc.len();
     let n = vd.len();
+    // of users one array for each number, and none of structs: each step is lent those that it reads, and `wants` goes on without `lefts`
     let mut debits = [0; USERS];
     let mut lacks = [0; PAYEES];
     let mut wants = [0; USERS];
