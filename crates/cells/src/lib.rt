@@ -28,12 +28,12 @@ fn cent(mark: u64) -> i64
 }
 
 // Adds the marks to the floors.
-fn post(cells: &mut [i64], marks: &[u64])
-    requires { PostAsks cells.old marks.now }
-    ensures { Posted cells.old marks.now cells.new (length cells.old) }
+fn post(cells: &mut [i64], table: &Marking)
+    requires { PostAsks cells.old table.now.marks.now }
+    ensures { Posted cells.old table.now.marks.now cells.new (length cells.old) }
 {
     // by index: of what a zipped `iter_mut` writes a proof learns nothing
-    for (i, &mark) in marks.iter().enumerate() {
+    for (i, &mark) in table.marks.iter().enumerate() {
         cells[i] += cent(mark);
     }
 }
@@ -70,5 +70,5 @@ pub fn fill(vc: &[i64], vd: &[i64], cells: &mut [i64], work: &mut [u64])
         table,
     };
     search.place();
-    post(cells, search.table.marks);
+    post(cells, &search.table);
 }
