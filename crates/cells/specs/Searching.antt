@@ -49,9 +49,8 @@ rows s = opened s.open_rows.now
 abbrev pub columns : Search → List ℕ
 columns s = opened s.open_columns.now
 
-pub record IsShape (s : Search) : Type 0 where
-  pub cells : length s.table.marks.now ≡ height s * width s
-  pub wide : length s.table.wants.now ≡ width s
+pub cells_long : (s : Search) → length s.table.marks.now ≡ height s * width s
+cells_long s = rw (s.tall, s.wide) at s.table.grid
 
 abbrev pub IsWanted : Search → Type 0
 IsWanted s = Wanted (height s) (width s) s.table.marks.now s.table.lacks.now s.table.wants.now

@@ -1,6 +1,5 @@
 // The search for marks: depth first, over rows and columns in turn, which turns the cells of the way it found on its way back out.
 ghost use Rattle.std.specs.Prelude.{◌≡◌, ◌+◌, ◌*◌, ◌<◌, ◌≤◌, length, slice_index, slice_index_or, IsTrue, false};
-ghost use Rattle.cells.specs.Searching.{IsShape, FreeIn, VisitsRow, VisitsColumn, IsWanted, PlacesRow, Places};
 
 use super::marks::{BROKEN, MARKED, Marking};
 
@@ -10,12 +9,16 @@ pub(crate) struct Search<'a> {
     pub open_rows: &'a mut [bool],
     pub open_columns: &'a mut [bool],
     pub table: Marking<'a>,
+    ghost tall: { length table.lacks.now ≡ length open_rows.now },
+    ghost wide: { length table.wants.now ≡ length open_columns.now },
 }
 
 impl Search<'_> {
+    ghost use Rattle.cells.specs.Searching.{FreeIn, VisitsRow, VisitsColumn, IsWanted, PlacesRow, Places};
+
     // Of the open columns whose cell in row i is broken and has no mark, the first that wants most, if any wants one.
     fn most_wanting(&self, i: usize) -> Option<usize>
-        requires { IsShape self.now × (i < length self.now.open_rows.now) }
+        requires { i < length self.now.open_rows.now }
         ensures { FreeIn self.now i result }
     {
         let n = self.open_columns.len();
@@ -34,8 +37,7 @@ impl Search<'_> {
     // Visits row i, which is open: finds it one more mark, or shows that there is none to be had.
     #[cycle(visit)]
     fn visit_row(&mut self, i: usize) -> bool
-        requires { IsShape self.old × (i < length self.old.open_rows.now)
-            × IsTrue (slice_index_or self.old.open_rows.now i false) }
+        requires { (i < length self.old.open_rows.now) × IsTrue (slice_index_or self.old.open_rows.now i false) }
         ensures { VisitsRow self.old self.new i result }
     {
         let n = self.open_columns.len();
@@ -60,8 +62,8 @@ impl Search<'_> {
     // Visits column j, which is open and wants no mark: has it give up a mark whose row finds another, or shows that there is none such.
     #[cycle(visit)]
     fn visit_column(&mut self, j: usize) -> bool
-        requires { IsShape self.old × (j < length self.old.open_columns.now)
-            × IsTrue (slice_index_or self.old.open_columns.now j false) × (slice_index self.old.table.wants.now j ≡ 0) }
+        requires { (j < length self.old.open_columns.now) × IsTrue (slice_index_or self.old.open_columns.now j false)
+            × (slice_index self.old.table.wants.now j ≡ 0) }
         ensures { VisitsColumn self.old self.new j result }
     {
         let n = self.open_columns.len();

@@ -3,7 +3,7 @@ use Rattle.std.proofs.Common.{◌<◌, false, slice_set, ◌∙◌, arith, rules
 use Rattle.cells.specs.Marks.{below}
 use Rattle.cells.specs.Turns.{row_now, row_start, row_skip, row_miss, row_wants, row_less, row_hit, row_last}
 use Rattle.cells.specs.Turns.{col_start, col_skip, col_miss, col_less, col_hit, col_last}
-use Rattle.cells.specs.Searching.{opened, width, rows, columns, length-opened, opened-set, opened_on, opened_off, still_then}
+use Rattle.cells.specs.Searching.{opened, width, cells_long, rows, columns, length-opened, opened-set, opened_on, opened_off, still_then}
 use Rattle.cells.proofs.search.Search.+visit.Goals as goal
 use Rattle.cells.proofs.search.Search.+visit.Goals.{visit_column-else-self-i-via-then-self-i+then-self-i-eq-MARKED+else-visit_row}
 use Rattle.cells.proofs.search.Search.+visit.Goals.{visit_column-else-self-i-via-then-self-i+else-self-i-eq-MARKED}
@@ -26,9 +26,9 @@ pub visit_column-visit_row-requires : goal.visit_column-visit_row-requires
 visit_column-visit_row-requires t c =
     let s = c.args.self.now in
     let I = c.loop-i.invariant in
-    let on = opened_on s.open_columns.now c.args.j c.requires.1 c.requires.2 in (
-      omega (arith, c.decreases, col_less (columns s) c.args.j (length-opened s.open_columns.now) c.requires.1 on c.loop-i.i I.1),
-      (search rules, omega (arith, c.loop-i-test.true, I.0.rows), c.if-self-i.true),
+    let on = opened_on s.open_columns.now c.args.j c.requires.0 c.requires.1 in (
+      omega (arith, c.decreases, col_less (columns s) c.args.j (length-opened s.open_columns.now) c.requires.0 on c.loop-i.i I.1),
+      (omega (arith, c.loop-i-test.true, I.0.rows), c.if-self-i.true),
     )
 
 pub visit_column-returns-then-visit_row : goal.visit_column-returns-then-visit_row
@@ -40,10 +40,10 @@ visit_column-returns-then-visit_row t c =
     let v = c.visit_row in
     let k = still_then I.0 v.ensures.0 in (
       search rules,
-      col_hit (columns s) j (length-opened s.open_columns.now) c.requires.1 (opened_on s.open_columns.now j c.requires.1 c.requires.2) l.i I.1
+      col_hit (columns s) j (length-opened s.open_columns.now) c.requires.0 (opened_on s.open_columns.now j c.requires.0 c.requires.1) l.i I.1
           v.result
           c.loop-i-test.true
-          (omega (arith, below c.loop-i-test.true c.requires.1, c.requires.0.cells, k.cells))
+          (omega (arith, below c.loop-i-test.true c.requires.0, cells_long s, k.cells))
           c.if-self-i-eq-MARKED.true
           (opened_on l.self.open_rows.now l.i (omega (arith, c.loop-i-test.true, I.0.rows)) c.if-self-i.true)
           (rw (I.0.rows, I.0.columns) at v.ensures.1)
@@ -76,9 +76,9 @@ pub visit_column-returns : goal.visit_column-returns
 visit_column-returns t c =
     let s = c.args.self.now in
     let I = c.loop-i.invariant in
-    let on = opened_on s.open_columns.now c.args.j c.requires.1 c.requires.2 in (
+    let on = opened_on s.open_columns.now c.args.j c.requires.0 c.requires.1 in (
       I.0,
-      col_last (columns s) c.args.j (length-opened s.open_columns.now) c.requires.1 on c.loop-i.i I.1 c.loop-i-test.false c.requires.3,
+      col_last (columns s) c.args.j (length-opened s.open_columns.now) c.requires.0 on c.loop-i.i I.1 c.loop-i-test.false c.requires.2,
     )
 
 -- ---- a row
@@ -86,10 +86,9 @@ pub visit_row-returns-in-Some : goal.visit_row-returns-in-Some
 visit_row-returns-in-Some t c =
     let i = c.args.i in
     let s = c.args.self.now in
-    let j = c.in-Some.j in
-    let S = c.requires.0 in (
+    let j = c.in-Some.j in (
       search rules,
-      row_now i j S.cells S.wide c.requires.1 (opened_on s.open_rows.now i c.requires.1 c.requires.2) c.in-Some.ensures
+      row_now i j (cells_long s) s.wide c.requires.0 (opened_on s.open_rows.now i c.requires.0 c.requires.1) c.in-Some.ensures
           (opened (slice_set s.open_rows.now i false)),
     )
 
@@ -109,10 +108,9 @@ visit_row-visit_column-requires t c =
     let l = c.loop-j in
     let I = l.invariant in
     let h : l.j < width l.self = omega (arith, c.loop-j-test.true, I.0.columns) in
-    let on = opened_on s.open_rows.now i c.requires.1 c.requires.2 in (
-      omega (arith, c.decreases, row_less (rows s) i (length-opened s.open_rows.now) c.requires.1 on l.j I.1),
+    let on = opened_on s.open_rows.now i c.requires.0 c.requires.1 in (
+      omega (arith, c.decreases, row_less (rows s) i (length-opened s.open_rows.now) c.requires.0 on l.j I.1),
       (
-        search rules,
         h,
         c.if-self-j.true,
         row_wants i l.j I.1 c.loop-j-test.true (rw c.in_default.is at c.most_wanting.ensures) c.if-self-i-eq-BROKEN.true
@@ -129,9 +127,9 @@ visit_row-returns-then-visit_column t c =
     let v = c.visit_column in
     let k = still_then I.0 v.ensures.0 in (
       search rules,
-      row_hit (rows s) i (length-opened s.open_rows.now) c.requires.1 (opened_on s.open_rows.now i c.requires.1 c.requires.2) l.j I.1 v.result
+      row_hit (rows s) i (length-opened s.open_rows.now) c.requires.0 (opened_on s.open_rows.now i c.requires.0 c.requires.1) l.j I.1 v.result
           c.loop-j-test.true
-          (omega (arith, below c.requires.1 c.loop-j-test.true, c.requires.0.cells, k.cells))
+          (omega (arith, below c.requires.0 c.loop-j-test.true, cells_long s, k.cells))
           c.if-self-i-eq-BROKEN.true
           (opened_on l.self.open_columns.now l.j (omega (arith, c.loop-j-test.true, I.0.columns)) c.if-self-j.true)
           (rw (I.0.rows, I.0.columns) at v.ensures.1)
@@ -164,7 +162,7 @@ pub visit_row-returns : goal.visit_row-returns
 visit_row-returns t c =
     let s = c.args.self.now in
     let I = c.loop-j.invariant in
-    let on = opened_on s.open_rows.now c.args.i c.requires.1 c.requires.2 in (
+    let on = opened_on s.open_rows.now c.args.i c.requires.0 c.requires.1 in (
       I.0,
-      row_last (rows s) c.args.i (length-opened s.open_rows.now) c.requires.1 on c.loop-j.j I.1 c.loop-j-test.false,
+      row_last (rows s) c.args.i (length-opened s.open_rows.now) c.requires.0 on c.loop-j.j I.1 c.loop-j-test.false,
     )

@@ -11,7 +11,7 @@ loop-j-preserved c =
     let columns = c.args.self.now.open_columns.now in
     let j = c.loop-j.j in
     let I = c.loop-j.invariant in
-    let h : j < length columns = omega (arith, c.loop-j-test.true, c.requires.0.wide) in
+    let h : j < length columns = omega (arith, c.loop-j-test.true, c.args.self.now.wide) in
     elim c.if-want-most.branch [
       | then-want-most+then-self-i-eq-BROKEN+then-self-j w ↦
           rw (w.best-is, w.most-is) (free_better I h w.if-want-most.true w.if-self-i-eq-BROKEN.true (opened_on columns j h w.if-self-j.true))
