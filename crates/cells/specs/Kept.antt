@@ -5,10 +5,6 @@ use Rattle.std.proofs.Math.Decide.{ℕ_discrete}
 use Rattle.cells.specs.Cut.{Witness}
 use Rattle.cells.specs.Marks.{at, row, col, one, one_same, one_other, mark, Kind, kind_same, kind_then, kind_set}
 
--- the slices fit each other
-pub record Grid (marks lacks wants : List ℕ) : Type 0 where
-  pub cells : length marks ≡ length lacks * length wants
-
 pub record Kept (m n : ℕ) (marks lacks wants marks' lacks' wants' : List ℕ) : Type 0 where
   pub rows : (b : ℕ) → b < m → row n marks' b + slice_index lacks' b ≡ row n marks b + slice_index lacks b
   pub cols : (x : ℕ) → x < n → col m n marks' x + slice_index wants' x ≡ col m n marks x + slice_index wants x

@@ -1,12 +1,9 @@
 -- A table's slices in one struct: what calls ask of it, and what they leave.
 use Rattle.std.specs.Prelude.{◌≡◌, ℕ, ◌*◌, List, length, ℤ, slice_set}
 use Rattle.cells.specs.declared.marks.Marking.{Marking}
-use Rattle.cells.specs.Kept.{Grid, Kept}
+use Rattle.cells.specs.Kept.{Kept}
 use Rattle.cells.specs.Rows.{RowFloors}
 use Rattle.cells.specs.Floors.{Slices, Floored}
-
-abbrev pub IsGrid : Marking → Type 0
-IsGrid t = Grid t.marks.now t.lacks.now t.wants.now
 
 abbrev pub KeepsTotals : Marking → Marking → Type 0
 KeepsTotals t t' = Kept (length t.lacks.now) (length t.wants.now) t.marks.now t.lacks.now t.wants.now t'.marks.now t'.lacks.now t'.wants.now

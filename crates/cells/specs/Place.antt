@@ -1,7 +1,8 @@
 -- xs holds the cells' states, wr what each row lacks, wc what each column wants, ro and co what is open.
 -- The driver: every row gets the marks that it wants, and so does every column, wherever some table of numbers (Feasible) says that this can be.
 use Rattle.std.specs.Prelude.{◌≡◌, ℕ, ◌+◌, ◌-◌, ◌*◌, ◌<◌, ◌≤◌, ◌≢◌, Bool, true, false, List, length, slice_index, slice_index_or, slice_set, refl}
-use Rattle.std.proofs.Common.{sym, ap, ◌∙◌, arith, below_none, below_more, length-set, get_or-set_other}
+use Rattle.std.proofs.Common.{sym, ap, ◌∙◌, arith, below_none, below_more, length-set, get_or-set_same, get_or-set_other}
+use Rattle.std.proofs.lemmas.List.{set-get_or, set-set}
 use Rattle.std.proofs.Math.Nat.{le_of_mul-le-mul_left}
 use Rattle.ints.specs.NatSums.{Σ, Σ_ext, Σ_scale, Σ_swap, Σ_same}
 use Rattle.cells.specs.Cut.{cut_rows}
@@ -79,22 +80,46 @@ module _ {m n : ℕ} {xs wr wc xs' wr' wc' : List ℕ} (K : Kept m n xs wr wc xs
         wide = lw;
       })
 
--- what it keeps while row i is given its marks: what the other rows lack
-pub record Placing (m n : ℕ) (xs wr wc xs' wr' wc' : List ℕ) (i : ℕ) : Type 0 where
-  pub kept : Kept m n xs wr wc xs' wr' wc'
-  pub other : (b : ℕ) → (b ≢ i) → slice_index wr' b ≡ slice_index wr b
+-- ---- one row
+-- what rows lack once row i has k marks more
+abbrev pub lacking : List ℕ → ℕ → ℕ → List ℕ
+lacking wr i k = slice_set wr i (slice_index wr i - k)
 
-pub placing_start : {m n : ℕ} (xs wr wc : List ℕ) (i : ℕ) → Placing m n xs wr wc xs wr wc i
-placing_start xs wr wc i = record { kept = kept_none xs wr wc; other = λ b f. refl }
-
-pub placing_on : {m n : ℕ} {xs wr wc xs' wr' wc' ys wd : List ℕ} {i : ℕ} → Placing m n xs wr wc xs' wr' wc' i
-    → Kept m n xs wr wc ys (slice_set wr' i (slice_index wr' i - 1)) wd → Placing m n xs wr wc ys (slice_set wr' i (slice_index wr' i - 1)) wd i
-placing_on {wr' = wr'} {i = i} g k = record { kept = k; other = λ b f. get_or-set_other wr' i b (slice_index wr' i - 1) 0 f ∙ g.other b f }
+-- what it keeps while row i is given its marks, of which it has k: they are taken off what it lacks at the end
+pub record Placing (m n : ℕ) (xs wr wc xs' wr' wc' : List ℕ) (i k : ℕ) : Type 0 where
+  pub same : wr' ≡ wr
+  pub kept : Kept m n xs wr wc xs' (lacking wr i k) wc'
 
 -- and what it leaves
 pub record RowPlaced (m n : ℕ) (xs wr wc xs' wr' wc' : List ℕ) (i : ℕ) : Type 0 where
-  pub going : Placing m n xs wr wc xs' wr' wc' i
+  pub kept : Kept m n xs wr wc xs' wr' wc'
+  pub other : (b : ℕ) → (b ≢ i) → slice_index wr' b ≡ slice_index wr b
   pub none : slice_index wr' i ≡ 0
+
+module _ {m n : ℕ} {xs wr wc : List ℕ} (i : ℕ) (hi : i < length wr) where
+  pub placing_start : Placing m n xs wr wc xs wr wc i 0
+  placing_start =
+      let e : slice_index wr i - 0 ≡ slice_index wr i = omega arith in
+      record { same = refl; kept = rw (e, set-get_or wr i 0) (kept_none xs wr wc) }
+
+  module _ {xs' wr' wc' : List ℕ} {k : ℕ} (P : Placing m n xs wr wc xs' wr' wc' i k) where
+    pub still_lacks : k < slice_index wr i → 0 < slice_index (lacking wr i k) i
+    still_lacks l = rw (get_or-set_same wr i (slice_index wr i - k) 0 hi) (omega arith)
+
+    pub placing_on : {ys wr'' wd : List ℕ} → wr'' ≡ wr' → Kept m n xs wr wc ys (lacking (lacking wr i k) i 1) wd
+        → Placing m n xs wr wc ys wr'' wd i (k + 1)
+    placing_on e K =
+        let o : slice_index wr i - k - 1 ≡ slice_index wr i - (k + 1) = omega arith in
+        record { same = e ∙ P.same; kept = rw (set-set, get_or-set_same wr i (slice_index wr i - k) 0 hi, o) at K }
+
+    pub placing_end : slice_index wr i ≤ k → RowPlaced m n xs wr wc xs' (slice_set wr' i 0) wc' i
+    placing_end l =
+        let e : slice_index wr i - k ≡ 0 = omega arith in
+        record {
+          kept = rw P.same (rw e at P.kept);
+          other = λ b f. rw P.same (get_or-set_other wr i b 0 0 f);
+          none = rw P.same (get_or-set_same wr i 0 0 hi);
+        }
 
 -- ---- the rows below i have their marks
 pub record Going (m n : ℕ) (xs wr wc xs' wr' wc' : List ℕ) (i : ℕ) : Type 0 where
@@ -122,8 +147,8 @@ module _ {m n : ℕ} {xs wr wc xs' wr' wc' : List ℕ} {i : ℕ} (g : Going m n 
   pub going_row : i < m → {ys wr'' wd : List ℕ} → RowPlaced m n xs' wr' wc' ys wr'' wd i → Going m n xs wr wc ys wr'' wd (i + 1)
   going_row h p = record {
     here = omega arith;
-    kept = kept_then g.kept p.going.kept;
-    done = below_more _ _ (λ b l. p.going.other b (λ q. absurd (omega arith)) ∙ g.done b l) p.none;
+    kept = kept_then g.kept p.kept;
+    done = below_more _ _ (λ b l. p.other b (λ q. absurd (omega arith)) ∙ g.done b l) p.none;
   }
 
   pub going_end : Feasible m n xs wr wc → m ≤ i → Placed m n xs wr wc xs'

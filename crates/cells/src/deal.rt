@@ -1,28 +1,28 @@
 // Marks dealt row by row to the columns that want most. Where no cell is whole this places them all; what it cannot place is left to
 // the search, so that nothing here promises more than that every total is kept.
-ghost use Rattle.std.specs.Prelude.{◌≡◌, ◌+◌, ◌*◌, ◌<◌, ◌≤◌, length};
-ghost use Rattle.cells.specs.Marking.{IsGrid, KeepsTotals};
+ghost use Rattle.std.specs.Prelude.{◌≡◌, ◌+◌, ◌*◌, ◌<◌, ◌≤◌, length, IfSome};
+ghost use Rattle.cells.specs.Marking.{KeepsTotals};
 
 use super::marks::{BROKEN, MARKED, Marking};
 
-// The largest level at which at least k columns want that many marks or more; 1 where there is none.
-fn level(counts: &[u64], k: u64) -> u64
-    ensures { (0 < result) × (result ≤ length counts.now + 1) }
+// The largest level above 1 at which at least k columns want that many marks or more, if there is one.
+fn level(counts: &[u64], k: u64) -> Option<u64>
+    ensures { IfSome result (λ t. (1 < t) × (t < length counts.now)) }
 {
     let mut left = k;
-    for t in (2..counts.len()).rev() {
-        if counts[t] >= left {
-            return t as u64;
+    for (t, &count) in counts.iter().enumerate().skip(2).rev() {
+        if count >= left {
+            return Some(t as u64);
         }
-        left -= counts[t];
+        left -= count;
     }
-    1
+    None
 }
 
 impl Marking<'_> {
     // Sets counts[k] to how many columns want k marks and have a broken cell without one in row i.
     fn count_wants(&self, i: usize, counts: &mut [u64])
-        requires { i * length self.now.wants.now + length self.now.wants.now ≤ length self.now.marks.now }
+        requires { i < length self.now.lacks.now }
     {
         let base = i * self.wants.len();
         let row = &self.marks[base..base + self.wants.len()];
@@ -37,7 +37,7 @@ impl Marking<'_> {
 
     // Marks the broken cells of row i whose columns want at least `least`, until the row lacks none.
     fn take(&mut self, i: usize, least: u64)
-        requires { IsGrid self.old × (i < length self.old.lacks.now) × (0 < least) }
+        requires { (i < length self.old.lacks.now) × (0 < least) }
         ensures { KeepsTotals self.old self.new }
     {
         let n = self.wants.len();
@@ -52,18 +52,17 @@ impl Marking<'_> {
 
     // Deals row i the marks that it lacks, to the columns that want most.
     fn deal_row(&mut self, i: usize, counts: &mut [u64])
-        requires { IsGrid self.old × (i < length self.old.lacks.now) }
+        requires { i < length self.old.lacks.now }
         ensures { KeepsTotals self.old self.new }
     {
         self.count_wants(i, counts);
-        let l = level(counts, self.lacks[i]);
+        let l = level(counts, self.lacks[i]).unwrap_or(1);
         self.take(i, l + 1);
         self.take(i, l);
     }
 
     // Deals every row's marks.
     pub(crate) fn deal(&mut self, counts: &mut [u64])
-        requires { IsGrid self.old }
         ensures { KeepsTotals self.old self.new }
     {
         for i in 0..self.lacks.len() {

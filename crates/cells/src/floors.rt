@@ -15,6 +15,7 @@ pub(crate) fn naturals(vd: &[i64], debits: &mut [u64]) -> u64
     ensures { Naturals vd.now debits.old debits.new (length vd.now) result }
 {
     let mut sum = 0;
+    // by index: of what a zipped `iter_mut` writes a proof learns nothing
     for (j, &v) in vd.iter().enumerate() {
         let debit = v as u64;
         debits[j] = debit;
@@ -45,7 +46,8 @@ fn add(left: &mut u64, rest: u64, w: u64) -> u64
 
 impl Marking<'_> {
     // The floors of row i, whose credit is v, and which of its cells are broken. The remainders are added to the columns' sums, `wants`
-    // times w and `lefts`; those of the row are what it lacks, in whole multiples of w.
+    // times w and `lefts`; those of the row are what it lacks, in whole multiples of w. A column's sum is one number in two slices, since
+    // after the floors `wants` goes on alone.
     fn floor_row(
         &mut self,
         i: usize,
@@ -63,6 +65,7 @@ impl Marking<'_> {
         let rate = Rate::of(v, w);
         let mut lacks = 0;
         let mut left = 0;
+        // by index, as in `naturals`
         for (j, &x) in debits.iter().enumerate() {
             let cell = rate.at(x);
             cells[base + j] = cell.quot;
@@ -85,6 +88,7 @@ impl Marking<'_> {
         requires { Given vc.now debits.now w × HasRoom self.old vc.now debits.now cells.old lefts.old }
         ensures { Floors vc.now debits.now w cells.new self.old self.new }
     {
+        // by index: of what is written into a part that `chunks_exact_mut` lends a proof learns nothing
         for (i, &v) in vc.iter().enumerate() {
             self.floor_row(i, v, debits, w, cells, lefts);
         }

@@ -13,7 +13,6 @@ ghost use Rattle.rules.specs.Table.{Table};
 ghost use Rattle.cells.specs.Finish.{Fillable, PostAsks, Posted};
 
 use marks::{MARKED, Marking};
-use search::Unvisited;
 
 // The most payees and users of a table.
 const PAYEES: usize = 257;
@@ -29,11 +28,12 @@ fn cent(mark: u64) -> i64
 }
 
 // Adds the marks to the floors.
-fn post(cells: &mut [i64], marks: &[u64])
-    requires { PostAsks cells.old marks.now }
-    ensures { Posted cells.old marks.now cells.new (length cells.old) }
+fn post(cells: &mut [i64], table: &Marking)
+    requires { PostAsks cells.old table.now.marks.now }
+    ensures { Posted cells.old table.now.marks.now cells.new (length cells.old) }
 {
-    for (i, &mark) in marks.iter().enumerate() {
+    // by index: of what a zipped `iter_mut` writes a proof learns nothing
+    for (i, &mark) in table.marks.iter().enumerate() {
         cells[i] += cent(mark);
     }
 }
@@ -47,6 +47,7 @@ pub fn fill(vc: &[i64], vd: &[i64], cells: &mut [i64], work: &mut [u64])
 {
     let m = vc.len();
     let n = vd.len();
+    // of users one array for each number, and none of structs: each step is lent those that it reads, and `wants` goes on without `lefts`
     let mut debits = [0; USERS];
     let mut lacks = [0; PAYEES];
     let mut wants = [0; USERS];
@@ -63,9 +64,11 @@ pub fn fill(vc: &[i64], vd: &[i64], cells: &mut [i64], work: &mut [u64])
     };
     table.floors(vc, debits, w, cells, &mut lefts[..n]);
     table.deal(&mut counts[..m + 1]);
-    table.place(&mut Unvisited {
-        rows: &mut rows[..m],
-        columns: &mut columns[..n],
-    });
-    post(cells, table.marks);
+    let mut search = search::Search {
+        open_rows: &mut rows[..m],
+        open_columns: &mut columns[..n],
+        table,
+    };
+    search.place();
+    post(cells, &search.table);
 }

@@ -1,4 +1,5 @@
 // What the cells of a table are, and what its rows and columns still need.
+ghost use Rattle.std.specs.Prelude.{◌≡◌, ◌*◌, length};
 
 // A cell is whole; broken, so that its exact value is above its floor; or broken and marked, to take the cent above.
 // Numbers, and no enum: they stand in the work slice, which the caller lends as numbers.
@@ -17,4 +18,6 @@ pub(crate) struct Marking<'a> {
     pub lacks: &'a mut [u64],
     // how many marks each column wants
     pub wants: &'a mut [u64],
+    // a cell for each row and column
+    ghost grid: { length marks.now ≡ length lacks.now * length wants.now },
 }

@@ -12,8 +12,8 @@ loop-j-preserved c =
       | then-self-j+then-self-i-eq-BROKEN+then-self-i-gt0 w ↦
           rw w.self-is
           (kept_then k
-          (kept_mark _ _ _ c.args.i c.loop-j.j c.requires.1 c.loop-j-test.true
-          (omega (arith, below c.requires.1 c.loop-j-test.true, c.requires.0.cells, k.cells)) (omega (arith, k.tall))
-          (omega (arith, k.wide)) w.if-self-i-eq-BROKEN.true w.if-self-i-gt0.true (omega (arith, w.if-self-j.true, c.requires.2))))
+          (kept_mark _ _ _ c.args.i c.loop-j.j c.requires.0 c.loop-j-test.true
+          (omega (arith, below c.requires.0 c.loop-j-test.true, c.args.self.now.grid, k.cells)) (omega (arith, k.tall))
+          (omega (arith, k.wide)) w.if-self-i-eq-BROKEN.true w.if-self-i-gt0.true (omega (arith, w.if-self-j.true, c.requires.1))))
       | else-self-j w ↦ rw w.self-is k
     ]

@@ -1,6 +1,6 @@
 use Rattle.std.proofs.Common.{refl, ◌∙◌, arith}
 use Rattle.cells.specs.Place.{going_start, going_row, going_end, still_wanted}
-use Rattle.cells.proofs.marks.Marking.place.Goals as goal
+use Rattle.cells.proofs.search.Search.place.Goals as goal
 
 pub loop-i-init : goal.loop-i-init
 loop-i-init c = (refl, refl, going_start _ _ _)

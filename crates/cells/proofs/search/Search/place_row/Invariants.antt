@@ -1,0 +1,11 @@
+use Rattle.std.proofs.Common.{◌≡◌}
+use Rattle.cells.specs.Place.{Placing}
+use Rattle.cells.specs.Searching.{height, width}
+use Rattle.cells.proofs.search.Search.place_row.Given as goal
+
+abbrev pub invariant-loop : goal.invariant-loop
+invariant-loop l =
+    let s = l.initial.self in
+    let t = l.self.table in
+    (height l.self ≡ height s) × (width l.self ≡ width s)
+    × Placing (height s) (width s) s.table.marks.now s.table.lacks.now s.table.wants.now t.marks.now t.lacks.now t.wants.now l.i l.counter
