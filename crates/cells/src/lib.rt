@@ -13,11 +13,7 @@ ghost use Rattle.rules.specs.Table.{Table};
 ghost use Rattle.cells.specs.Finish.{Fillable, PostAsks, Posted};
 
 use marks::{MARKED, Marking};
-
-// The most payees and users of a table.
-const PAYEES: usize = 257;
-
-const USERS: usize = 512;
+use rules::{PAYEES, USERS};
 
 // The cent that a cell's mark adds to its floor.
 fn cent(mark: u64) -> i64
