@@ -13,7 +13,8 @@ use Rattle.rules.specs.Verdict.{each_line}
 use Rattle.rules.specs.Lists.{each_from, side_by_side}
 use Rattle.rules.specs.Calendar.{month_of_year, impossible_month, cycle_month, settled_to}
 use Rattle.rules.specs.Lines.{kind_of, bad_agent, bad_user, bad_point, unfit_point}
-use Rattle.rules.specs.Charges.{half_up, or_zero, use_charge, allowance, excess, overrun, of_user, EUSTs, overrun_sums, VMEs, pv_total, CPVs, ns, VDs, new_credits}
+use Rattle.rules.specs.Charges.{half_up, or_zero, use_charge, allowance, excess, overrun, of_user, EUSTs, overrun_sums, VMEs, pv_total, CPVs, ns, VDs}
+use Rattle.rules.specs.Charges.{new_credits}
 use Rattle.rules.specs.Credits.{VMPA, VMST, own_credit, own_credits_from, SMSEFrom, VMANTsFrom, agent_VCs_from, VCsFrom}
 use Rattle.rules.specs.Refusals.{bad_counts, short_slices, bad_month, count_tests, state_tests, lines_before_points, line_tests, sum_tests, refusal}
 use Rattle.rules.specs.Tally.{after, verdicts}

@@ -42,7 +42,10 @@ module _ (g : Ledger) (held cells : List ℤ) (work : List ℕ) (l : Lines) wher
     pub found_so : Finds (state_of g held) l j
     found_so = (judged short (begun told)).found
 
-  pub refused_closes : {e : Refusal} → refused_by e ≡ closing_refusal g held cells work l → Closes g held l cells work (record { answer = Err e; ledger = g }) held cells work
+  pub refused_closes :
+      {e : Refusal}
+      → refused_by e ≡ closing_refusal g held cells work l
+      → Closes g held l cells work (record { answer = Err e; ledger = g }) held cells work
   refused_closes {e = e} v = closes_refused g held l cells work e (sym v)
 
   pub accepted_closes :

@@ -1,4 +1,5 @@
--- What a closing is handed, and when it fits its types: every number fits its 64 bits, and there is room for so many elements. Then each has machine values (`Lies` of proofs/Placing, and the kit's own relation `Is`). Assumes nothing.
+-- What a closing is handed, and when it fits its types: every number fits its 64 bits, and there is room for so many elements. Then each
+-- has machine values (`Lies` of proofs/Placing, and the kit's own relation `Is`). Assumes nothing.
 use Prim.Native.Nat.{ℕ}
 use mathlib.Core.Path.{refl}
 use mathlib.Core.List.{List, [], ◌∷◌, map}

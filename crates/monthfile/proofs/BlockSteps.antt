@@ -1,5 +1,6 @@
 -- Reading's verdict (format's `scan`) over names, blocks one after the other, and after the last. Assumes nothing.
-use Rattle.std.proofs.Common.{ℕ, ◌+◌, ◌≤◌, ◌<◌, ◌≡◌, refl, ap, sym, ◌∙◌, subst, true, false, List, [], ◌∷◌, ◌++◌, map, min, length, drop, get_or, Result, Ok, Err}
+use Rattle.std.proofs.Common.{ℕ, ◌+◌, ◌≤◌, ◌<◌, ◌≡◌, refl, ap, sym, ◌∙◌, subst, true, false, List, [], ◌∷◌, ◌++◌, map, min, length, drop, get_or, Result, Ok}
+use Rattle.std.proofs.Common.{Err}
 use lib.ListN.{drop_of_length-le}
 use mathlib.Core.Bool.{false≢true}
 use lib.Seq.{drop-cons}

@@ -1,5 +1,6 @@
 -- Digits, signs and the ends of lines read at a cursor (format's `read_digits`, `read_value`, `past_end`). Assumes nothing.
-use Rattle.std.proofs.Common.{ℕ, zero, suc, ◌+◌, ◌-◌, ◌*◌, ◌^◌, ◌≤◌, ◌<◌, ◌≡◌, refl, ap, sym, ◌∙◌, subst, Bool, true, false, cond, List, [], ◌∷◌, length, get_or, take, drop, ℤ, pos, neg_ℤ, ◌-ℤ◌, eqb, arith}
+use Rattle.std.proofs.Common.{ℕ, zero, suc, ◌+◌, ◌-◌, ◌*◌, ◌^◌, ◌≤◌, ◌<◌, ◌≡◌, refl, ap, sym, ◌∙◌, subst, Bool, true, false, cond, List, [], ◌∷◌, length}
+use Rattle.std.proofs.Common.{get_or, take, drop, ℤ, pos, neg_ℤ, ◌-ℤ◌, eqb, arith}
 use mathlib.Core.Bool.{false≢true}
 use lib.IntN.{+ℤ_idl}
 use Rattle.std.specs.List.{fold}

@@ -1,5 +1,6 @@
 -- Reading's verdict (format's `scan`) between values and where lines begin. Assumes nothing.
-use Rattle.std.proofs.Common.{ℕ, zero, suc, ◌+◌, ◌-◌, ◌<◌, ◌≡◌, refl, ap, sym, ◌∙◌, subst, ◌≤◌, Bool, true, false, cond, List, [], ◌∷◌, drop, eqb, arith, Result, Err}
+use Rattle.std.proofs.Common.{ℕ, zero, suc, ◌+◌, ◌-◌, ◌<◌, ◌≡◌, refl, ap, sym, ◌∙◌, subst, ◌≤◌, Bool, true, false, cond, List, [], ◌∷◌, drop, eqb, arith}
+use Rattle.std.proofs.Common.{Result, Err}
 use mathlib.Core.Bool.{false≢true, and-false}
 use borrow.Author.Tests.{eqb-true, ne_eqb}
 use Rattle.format.specs.Bytes.{lf, cr, comma, m, starts_line}

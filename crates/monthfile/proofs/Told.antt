@@ -6,7 +6,8 @@ use Rattle.format.proofs.Answers.{reads}
 use Rattle.rules.specs.Answers.{refused_by, verdict_of}
 use Rattle.rules.specs.Verdict as Verdict
 use Rattle.rules.specs.declared.outcomes.Refusal.{Refusal}
-use Rattle.rules.specs.declared.outcomes.Refusal.TheVariants.{BadCounts, ShortSlice, BadMonth, BadCredit, BadValue, NoSuchUser, UnfitPoint, NoPayments, NoUse, NoDebit, NotAFile, TooManyLines}
+use Rattle.rules.specs.declared.outcomes.Refusal.TheVariants.{BadCounts, ShortSlice, BadMonth, BadCredit, BadValue, NoSuchUser, UnfitPoint, NoPayments, NoUse}
+use Rattle.rules.specs.declared.outcomes.Refusal.TheVariants.{NoDebit, NotAFile, TooManyLines}
 use Rattle.monthfile.specs.Reads.{Answers}
 use Rattle.monthfile.specs.declared.reading.Header.{Header}
 

@@ -56,7 +56,8 @@ found users (negsuc k) i r e h = absurd (omega (za, sub# (negsuc k) (pos 1)))
 -- where there is no kind, none of its zeros is asked for
 pub fits_no_kind : (number : ℤ) (p : Point) → NoKindAt number → unfit_point number p ≡ false
 unfolding unfit_point
-fits_no_kind number p e = rw (eq_z_not number (pos 3) (other (pos 3) (unfold outside in refl)), eq_z_not number (pos 1) (other (pos 1) (unfold outside in refl)))
+fits_no_kind number p e =
+    rw (eq_z_not number (pos 3) (other (pos 3) (unfold outside in refl)), eq_z_not number (pos 1) (other (pos 1) (unfold outside in refl)))
   where
     other : (k : ℤ) → outside (pos 1) (pos 3) k ≡ false → number ≡ k → ⊥
     other k h q = true≢false (sym e ∙ ap (outside (pos 1) (pos 3)) q ∙ h)

@@ -8,7 +8,8 @@ use Rattle.std.specs.Prelude.{Result, Ok, Err, cond, eqb}
 use Rattle.rules.specs.declared.outcomes.Lent.{Lent}
 use Rattle.rules.specs.declared.outcomes.Lent.TheVariants.{Held, Cells, Work, PointRows, UserRows, PayeeRows}
 use Rattle.rules.specs.declared.outcomes.Refusal.{Refusal}
-use Rattle.rules.specs.declared.outcomes.Refusal.TheVariants.{BadCounts, ShortSlice, BadMonth, BadCredit, BadValue, NoSuchUser, UnfitPoint, NoPayments, NoUse, NoDebit, NotAFile, TooManyLines}
+use Rattle.rules.specs.declared.outcomes.Refusal.TheVariants.{BadCounts, ShortSlice, BadMonth, BadCredit, BadValue, NoSuchUser, UnfitPoint, NoPayments, NoUse}
+use Rattle.rules.specs.declared.outcomes.Refusal.TheVariants.{NoDebit, NotAFile, TooManyLines}
 use Rattle.rules.specs.Verdict.{Verdict, accepted, refused, when, ◌then◌, each_line}
 use Rattle.rules.specs.Answers.{lent_place, number_of, place_of, refused_by, verdict_of}
 use Rattle.rules.proofs.Tests.{refused_not_accepted}

@@ -6,14 +6,16 @@ use Rattle.rules.specs.declared.Ledger.{Ledger}
 use Rattle.rules.specs.declared.MonthLine.{MonthLine}
 use Rattle.rules.specs.declared.Point.{Point}
 use Rattle.rules.specs.declared.outcomes.Lent.TheVariants.{Held, Cells, Work}
-use Rattle.rules.specs.declared.outcomes.Refusal.TheVariants.{BadCounts, ShortSlice, BadMonth, BadCredit, BadValue, NoSuchUser, UnfitPoint, NoPayments, NoUse, NoDebit}
+use Rattle.rules.specs.declared.outcomes.Refusal.TheVariants.{BadCounts, ShortSlice, BadMonth, BadCredit, BadValue, NoSuchUser, UnfitPoint, NoPayments, NoUse}
+use Rattle.rules.specs.declared.outcomes.Refusal.TheVariants.{NoDebit}
 use Rattle.rules.specs.Verdict.{Verdict}
 use Rattle.rules.specs.declared.Agent.{Agent}
 use Rattle.rules.specs.declared.User.{User}
 use Rattle.rules.specs.Lines.{Lines}
 use Rattle.rules.specs.State.{State}
 use Rattle.rules.specs.declared.Lengths.{Lengths}
-use Rattle.rules.specs.Refusals.{short_slices, credit_test, agent_test, user_test, point_test, count_tests, state_tests, lines_before_points, line_tests, sum_tests, refusal, opening_refusal}
+use Rattle.rules.specs.Refusals.{short_slices, credit_test, agent_test, user_test, point_test, count_tests, state_tests, lines_before_points, line_tests}
+use Rattle.rules.specs.Refusals.{sum_tests, refusal, opening_refusal}
 use Rattle.rules.specs.Calls.{state_of, lengths_of, closing_refusal}
 use Rattle.rules.proofs.Answers.{Told, told_when, told_then, told_each}
 

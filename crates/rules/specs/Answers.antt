@@ -3,7 +3,8 @@ use Rattle.std.specs.Prelude.{ℕ, Result, Ok, Err}
 use Rattle.rules.specs.declared.outcomes.Lent.{Lent}
 use Rattle.rules.specs.declared.outcomes.Lent.TheVariants.{Held, Cells, Work, PointRows, UserRows, PayeeRows}
 use Rattle.rules.specs.declared.outcomes.Refusal.{Refusal}
-use Rattle.rules.specs.declared.outcomes.Refusal.TheVariants.{BadCounts, ShortSlice, BadMonth, BadCredit, BadValue, NoSuchUser, UnfitPoint, NoPayments, NoUse, NoDebit, NotAFile, TooManyLines}
+use Rattle.rules.specs.declared.outcomes.Refusal.TheVariants.{BadCounts, ShortSlice, BadMonth, BadCredit, BadValue, NoSuchUser, UnfitPoint, NoPayments, NoUse}
+use Rattle.rules.specs.declared.outcomes.Refusal.TheVariants.{NoDebit, NotAFile, TooManyLines}
 use Rattle.rules.specs.Verdict.{Verdict, accepted, refused}
 
 -- 2: a slice too short; of closing 1 held, 2 cells, 3 work, of a statement 1 held, 7 the points' rows, 8 the users', 9 the payees'

@@ -6,7 +6,7 @@ mod payees;
 mod points;
 mod users;
 
-ghost use Rattle.std.specs.Prelude.{◌≡◌, ◌≤◌, List, ℤ};
+ghost use Rattle.std.specs.Prelude.{◌≡◌, ◌≤◌, List, ℤ, length};
 ghost use Rattle.rules.specs.Verdict.{Verdict};
 ghost use Rattle.rules.specs.Answers.{verdict_of};
 ghost use Rattle.rules.specs.Lines.{lines_of};
@@ -77,11 +77,12 @@ fn short_rooms(ledger: Ledger, points: u64, rooms: RowRooms) -> Result<(), Refus
 
 // 1 and 2, of the counts of its lines and the lengths of its slices; the held credits play no part.
 #[tactic(auto, unfolding(rules::specs::Refusals::count_tests))]
-fn stating_verdict(ledger: Ledger, counts: Counts, rooms: RowRooms) -> Result<(), Refusal>
-    ensures { (credits : List ℤ) → verdict_of result
-        ≡ count_tests (state_of ledger credits) (short_rooms (state_of ledger credits) rooms counts.points)
-        counts.users counts.agents counts.points }
+fn stating_verdict(ledger: Ledger, month: MonthLines, rooms: RowRooms) -> Result<(), Refusal>
+    ensures { (credits : List ℤ) → let l = lines_of month.entry in verdict_of result
+        ≡ count_tests (state_of ledger credits) (short_rooms (state_of ledger credits) rooms (length l.points))
+        (length l.users) (length l.agents) (length l.points) }
 {
+    let counts = Counts::of(month);
     counts_verdict(ledger, counts)?;
     short_rooms(ledger, counts.points, rooms)
 }
@@ -134,8 +135,7 @@ pub fn state(
         users: user_rows.len() as u64,
         payees: payee_rows.len() as u64,
     };
-    let counts = Counts::of(month);
-    let first = stating_verdict(ledger, counts, rooms);
+    let first = stating_verdict(ledger, month, rooms);
     let judged = closing::judge::judge(first, Standing { ledger, held }, month)?;
     let n = month.points.len();
     let u = month.users.len();

@@ -22,7 +22,8 @@ overflow_mul-c c =
 
 pub slice_bounds-write-end : goal.slice_bounds-write-end
 slice_bounds-write-end c =
-    held_reach _ _ _ _ _ (passed_so _ _ c.args.cells.now c.args.work.now _ (rw c.of-counts.ensures at (c.closing_verdict-first.ensures c.args.held.now)) c.in-Ok.ensures)
+    held_reach _ _ _ _ _
+    (passed_so _ _ c.args.cells.now c.args.work.now _ (rw c.of-counts.ensures at (c.closing_verdict-first.ensures c.args.held.now)) c.in-Ok.ensures)
 
 pub slice_bounds-write-end-in-Ok : goal.slice_bounds-write-end-in-Ok
 slice_bounds-write-end-in-Ok c =
@@ -31,7 +32,8 @@ slice_bounds-write-end-in-Ok c =
 
 pub slice_bounds-write-end-in-Ok-2 : goal.slice_bounds-write-end-in-Ok-2
 slice_bounds-write-end-in-Ok-2 c =
-    cells_reach _ _ _ _ _ (passed_so _ _ c.args.cells.now c.args.work.now _ (rw c.of-counts.ensures at (c.closing_verdict-first.ensures c.args.held.now)) c.in-Ok.ensures)
+    cells_reach _ _ _ _ _
+    (passed_so _ _ c.args.cells.now c.args.work.now _ (rw c.of-counts.ensures at (c.closing_verdict-first.ensures c.args.held.now)) c.in-Ok.ensures)
 
 pub slice_bounds-write-end-in-Ok-3 : goal.slice_bounds-write-end-in-Ok-3
 slice_bounds-write-end-in-Ok-3 c =
