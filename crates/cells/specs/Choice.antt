@@ -50,8 +50,8 @@ at_most low (inl e) = omega (za, add# low (pos 1), e)
 at_most low (inr e) = ≡→≤ e
 
 -- the largest that goes on after a, where no list begins with more than a
-largest_more : {P : List ℤ → Type 0} (a : ℤ) (ys : List ℤ) → (P [] → ⊥) → ((x : ℤ) (xs : List ℤ) → P (x ∷ xs) → x ≤ℤ a) → Largest (After P a) ys
-    → Largest P (a ∷ ys)
+largest_more : {P : List ℤ → Type 0} (a : ℤ) (ys : List ℤ) → (P [] → ⊥) → ((x : ℤ) (xs : List ℤ) → P (x ∷ xs) → x ≤ℤ a)
+    → Largest (After P a) ys → Largest P (a ∷ ys)
 largest_more {P} a ys some most L = record { table = L.table; first = go }
   where
     go : (other : List ℤ) → P other → (p : ℕ) → ((q : ℕ) → q < p → slice_index_or other q (pos 0) ≡ slice_index_or (a ∷ ys) q (pos 0))
@@ -61,7 +61,8 @@ largest_more {P} a ys some most L = record { table = L.table; first = go }
     go (x ∷ xs) t (suc p) same =
         L.first xs (subst (λ (z : ℤ). P (z ∷ xs)) (same 0 (suc-le-suc zero-le)) t) p (λ q h. same (suc q) (suc-le-suc h))
 
-module _ (P : List ℤ → Type 0) (low : ℤ) (some : P [] → ⊥) (begins : (x : ℤ) (xs : List ℤ) → P (x ∷ xs) → (x ≡ low) ⊎ (x ≡ low +ℤ pos 1)) where
+module _ (P : List ℤ → Type 0) (low : ℤ) (some : P [] → ⊥)
+    (begins : (x : ℤ) (xs : List ℤ) → P (x ∷ xs) → (x ≡ low) ⊎ (x ≡ low +ℤ pos 1)) where
   -- where no list begins with low + 1
   is_low : None (After P (low +ℤ pos 1)) → {x : ℤ} {xs : List ℤ} → P (x ∷ xs) → (x ≡ low) ⊎ (x ≡ low +ℤ pos 1) → x ≡ low
   is_low f t (inl e) = e
@@ -84,14 +85,16 @@ module _ (P : List ℤ → Type 0) (low : ℤ) (some : P [] → ⊥) (begins : (
   choose_more (inr f) (inr g) = inr (none_more f g)
 
 -- ---- the largest, or that no list is P
-choose : (k : ℕ) (low : ℕ → ℤ) (P : List ℤ → Type 0) → ((xs : List ℤ) → Dec (P xs)) → ((xs : List ℤ) → P xs → Narrow k low xs) → LargestOf P ⊎ None P
+choose : (k : ℕ) (low : ℕ → ℤ) (P : List ℤ → Type 0) → ((xs : List ℤ) → Dec (P xs)) → ((xs : List ℤ) → P xs → Narrow k low xs)
+    → LargestOf P ⊎ None P
 choose zero low P dec narrow = choose_empty (λ xs t. (narrow xs t).long) (dec [])
 choose (suc k) low P dec narrow =
     choose_more P (low 0) (λ t. absurd (omega (arith, (narrow [] t).long))) (λ x xs t. (narrow (x ∷ xs) t).near 0 (suc-le-suc zero-le))
-    (choose k (λ p. low (suc p)) (After P (low 0 +ℤ pos 1)) (λ xs. dec ((low 0 +ℤ pos 1) ∷ xs)) (λ xs t. narrow_rest (narrow ((low 0 +ℤ pos 1) ∷ xs) t)))
+    (choose k (λ p. low (suc p)) (After P (low 0 +ℤ pos 1)) (λ xs. dec ((low 0 +ℤ pos 1) ∷ xs))
+    (λ xs t. narrow_rest (narrow ((low 0 +ℤ pos 1) ∷ xs) t)))
     (choose k (λ p. low (suc p)) (After P (low 0)) (λ xs. dec (low 0 ∷ xs)) (λ xs t. narrow_rest (narrow (low 0 ∷ xs) t)))
 
 -- where some list is P, one is the largest
-pub largest_of : (k : ℕ) (low : ℕ → ℤ) (P : List ℤ → Type 0) → ((xs : List ℤ) → Dec (P xs)) → ((xs : List ℤ) → P xs → Narrow k low xs) → (xs : List ℤ) → P xs
-    → LargestOf P
+pub largest_of : (k : ℕ) (low : ℕ → ℤ) (P : List ℤ → Type 0) → ((xs : List ℤ) → Dec (P xs))
+    → ((xs : List ℤ) → P xs → Narrow k low xs) → (xs : List ℤ) → P xs → LargestOf P
 largest_of k low P dec narrow xs t = ⊎_elim (λ l. l) (λ f. absurd (f xs t)) (choose k low P dec narrow)

@@ -18,7 +18,8 @@ pub record Line (v Q : ℤ) (w R : ℕ) : Type 0 where
   pub value : v ≡ Q +ℤ pos want
   pub exact : R ≡ w * want
 
-pub line : (n w : ℕ) (x q : ℕ → ℤ) (r : ℕ → ℕ) (v : ℤ) → 0 < w → ((k : ℕ) → k < n → Split (x k) w (q k) (r k)) → Σ< n x ≡ v *ℤ pos w → Line v (Σ< n q) w (Σ n r)
+pub line : (n w : ℕ) (x q : ℕ → ℤ) (r : ℕ → ℕ) (v : ℤ) → 0 < w → ((k : ℕ) → k < n → Split (x k) w (q k) (r k))
+    → Σ< n x ≡ v *ℤ pos w → Line v (Σ< n q) w (Σ n r)
 line n w x q r v h s e =
     let t : v *ℤ pos w ≡ Σ< n q *ℤ pos w +ℤ pos (Σ n r) =
     sym e
@@ -87,7 +88,8 @@ unfolding col
 col_none m n marks j h = ℕs.Σ_ext m (λ i. at n marks i j - 1) (λ i. 0) (λ i l. omega (arith, h (i * n + j))) ∙ ℕs.Σ_zero m
 
 -- what is wanted: each row's and each column's total less its floors; a cell is 0 just where nothing is left over
-pub record Left (m n : ℕ) (vc : ℕ → ℤ) (vd : ℕ → ℕ) (q : ℕ → ℕ → ℤ) (r : ℕ → ℕ → ℕ) (marks lacks wants : List ℕ) : Type 0 where
+pub record Left (m n : ℕ) (vc : ℕ → ℤ) (vd : ℕ → ℕ) (q : ℕ → ℕ → ℤ) (r : ℕ → ℕ → ℕ) (marks lacks wants : List ℕ)
+    : Type 0 where
   pub clear : (p : ℕ) → slice_index marks p ≤ 1
   pub whole : (i j : ℕ) → i < m → j < n → at n marks i j ≡ 0 → r i j ≡ 0
   pub broken : (i j : ℕ) → i < m → j < n → at n marks i j ≡ 1 → 0 < r i j
@@ -95,8 +97,8 @@ pub record Left (m n : ℕ) (vc : ℕ → ℤ) (vd : ℕ → ℕ) (q : ℕ → �
   pub cols : (j : ℕ) → j < n → pos (vd j) ≡ Σ< m (λ i. q i j) +ℤ pos (slice_index wants j)
 
 -- the remainders are the witness
-pub feasible : {m n w : ℕ} {vc : ℕ → ℤ} {vd : ℕ → ℕ} {q : ℕ → ℕ → ℤ} {r : ℕ → ℕ → ℕ} {marks lacks wants : List ℕ} → Exact m n w vc vd q r
-    → Left m n vc vd q r marks lacks wants → Feasible m n marks lacks wants
+pub feasible : {m n w : ℕ} {vc : ℕ → ℤ} {vd : ℕ → ℕ} {q : ℕ → ℕ → ℤ} {r : ℕ → ℕ → ℕ} {marks lacks wants : List ℕ}
+    → Exact m n w vc vd q r → Left m n vc vd q r marks lacks wants → Feasible m n marks lacks wants
 feasible {m} {n} {w} {r = r} {marks = marks} {lacks = lacks} {wants = wants} E L = record {
   cap = w;
   y = r;

@@ -1,6 +1,7 @@
 -- Such a table always exists (paper 01, "The table of cells"): for credits of either sign and debits that are not negative, whose sums
 -- are equal and above 0, whatever their number and size.
-use Rattle.std.specs.Prelude.{◌≡◌, ℕ, zero, suc, ◌+◌, ◌-◌, ◌*◌, ◌/◌, ◌%◌, ◌<◌, ◌≤◌, min, List, [], ◌∷◌, length, get_or, ℤ, pos, ◌+ℤ◌, ◌≤ℤ◌, slice_index}
+use Rattle.std.specs.Prelude.{◌≡◌, ℕ, zero, suc, ◌+◌, ◌-◌, ◌*◌, ◌/◌, ◌%◌, ◌<◌, ◌≤◌, min, List, [], ◌∷◌}
+use Rattle.std.specs.Prelude.{length, get_or, ℤ, pos, ◌+ℤ◌, ◌≤ℤ◌, slice_index}
 use Rattle.std.specs.Prelude.{slice_index_or, refl}
 use Rattle.std.proofs.Common.{sym, ap, ◌∙◌, subst, ⊎_elim, arith, not-suc-le-zero, le_of_suc-le-suc, div-add-mod', mod-lt}
 use Rattle.std.proofs.Math.ListN.{get_or-eq_default}
@@ -110,8 +111,8 @@ module _ (vc : List ℤ) (debits : List ℕ) (w : ℕ) (B : Balanced vc debits w
   cell_of : ℕ → ℕ → ℤ
   cell_of i j = quot_of vc debits w i j +ℤ pos (at (length debits) placed.marks' i j - 1)
 
-  has_table : (vd : List ℤ) → length debits ≡ length vd → ((j : ℕ) → j < length vd → slice_index_or vd j (pos 0) ≡ pos (debit_of debits j)) → sum_ℤ vd ≡ pos w
-      → HasTable vc vd
+  has_table : (vd : List ℤ) → length debits ≡ length vd → ((j : ℕ) → j < length vd → slice_index_or vd j (pos 0) ≡ pos (debit_of debits j))
+      → sum_ℤ vd ≡ pos w → HasTable vc vd
   unfolding cell_of
   has_table vd long debit sum = record {
     cells = tabulate (length vc * length debits) (λ p. cell_of (p / length debits) (p % length debits));

@@ -1,5 +1,6 @@
 -- What `fill` asks, and how marks added to floors make the table of paper 01.
-use Rattle.std.specs.Prelude.{◌≡◌, ℕ, zero, suc, ◌+◌, ◌-◌, ◌*◌, ◌<◌, ◌≤◌, min, List, length, get_or, take, replicate, ℤ, pos, ◌+ℤ◌, ◌*ℤ◌, ◌≤ℤ◌, FitsSigned}
+use Rattle.std.specs.Prelude.{◌≡◌, ℕ, zero, suc, ◌+◌, ◌-◌, ◌*◌, ◌<◌, ◌≤◌, min, List, length, get_or, take, replicate}
+use Rattle.std.specs.Prelude.{ℤ, pos, ◌+ℤ◌, ◌*ℤ◌, ◌≤ℤ◌, FitsSigned}
 use Rattle.std.specs.Prelude.{slice_index, slice_index_or, refl}
 use Rattle.std.proofs.Math.Path.{sym, ap, subst}
 use Rattle.std.proofs.Common.{◌∙◌, arith, zero-add, length-take}
@@ -50,8 +51,8 @@ module _ {vc vd : List ℤ} {debits debits' : List ℕ} {w : ℕ} (F : Fillable 
   pub written_sum : sum_ℤ vd ≡ pos w
   written_sum = sum_is vd F.debits ∙ ap pos (sym N.total)
 
-pub given : {vc vd : List ℤ} {debits debits' : List ℕ} {w : ℕ} → Fillable vc vd → length debits ≡ length vd → Naturals vd debits debits' (length vd) w
-    → Given vc debits' w
+pub given : {vc vd : List ℤ} {debits debits' : List ℕ} {w : ℕ} → Fillable vc vd → length debits ≡ length vd
+    → Naturals vd debits debits' (length vd) w → Given vc debits' w
 given {vc} {vd} {debits} {debits'} {w} F e N =
     let s = written_sum F e N in
     record {
@@ -125,10 +126,12 @@ cell_by x w r a (suc (suc zero)) v s k l m z e =
 cell_by x w r a (suc (suc (suc b))) v s k l m z e = absurd (omega arith)
 
 -- a line of which each entry is q and its mark b
-pub line_sum : (n : ℕ) (t q : ℕ → ℤ) (b : ℕ → ℕ) → ((j : ℕ) → j < n → t j ≡ q j +ℤ pos (b j)) → Σ< n t ≡ Σ< n q +ℤ pos (Σ n b)
+pub line_sum : (n : ℕ) (t q : ℕ → ℤ) (b : ℕ → ℕ) → ((j : ℕ) → j < n → t j ≡ q j +ℤ pos (b j))
+    → Σ< n t ≡ Σ< n q +ℤ pos (Σ n b)
 line_sum n t q b h = ℤs.Σ_ext n t (λ j. q j +ℤ pos (b j)) h ∙ Σ_add n q (λ j. pos (b j)) ∙ ap (λ (z : ℤ). Σ< n q +ℤ z) (Σ_pos n b)
 
-line_by : (n : ℕ) (t q : ℕ → ℤ) (b : ℕ → ℕ) (v : ℤ) (k : ℕ) → ((j : ℕ) → j < n → t j ≡ q j +ℤ pos (b j)) → Σ n b ≡ k → v ≡ Σ< n q +ℤ pos k → Σ< n t ≡ v
+line_by : (n : ℕ) (t q : ℕ → ℤ) (b : ℕ → ℕ) (v : ℤ) (k : ℕ) → ((j : ℕ) → j < n → t j ≡ q j +ℤ pos (b j)) → Σ n b ≡ k
+    → v ≡ Σ< n q +ℤ pos k → Σ< n t ≡ v
 line_by n t q b v k h e f = line_sum n t q b h ∙ ap (λ (x : ℕ). Σ< n q +ℤ pos x) e ∙ sym f
 
 -- ---- the floors hold no marks: the marks are those that were wanted
@@ -175,21 +178,23 @@ module _ {vc vd : List ℤ} {debits : List ℕ} {w : ℕ} (B : Balanced vc debit
   }
 
 -- all of `fill`
-pub laid : {vc vd : List ℤ} {debits debits' : List ℕ} {w : ℕ} → Fillable vc vd → length debits ≡ length vd → Naturals vd debits debits' (length vd) w
-    → {cells : List ℤ} {marks lacks wants marks' lacks' wants' ys : List ℕ} → Floored vc debits' w cells marks lacks wants
-    → length cells ≡ length vc * length vd → {m n : ℕ} → m ≡ length vc → n ≡ length vd → Kept m n marks lacks wants marks' lacks' wants' → {m' n' : ℕ}
-    → m' ≡ length vc → n' ≡ length vd → Placed m' n' marks' lacks' wants' ys → (out : List ℤ) → Posted cells ys out (length cells) → Table vc vd out
+pub laid : {vc vd : List ℤ} {debits debits' : List ℕ} {w : ℕ} → Fillable vc vd → length debits ≡ length vd
+    → Naturals vd debits debits' (length vd) w → {cells : List ℤ} {marks lacks wants marks' lacks' wants' ys : List ℕ}
+    → Floored vc debits' w cells marks lacks wants → length cells ≡ length vc * length vd → {m n : ℕ} → m ≡ length vc → n ≡ length vd
+    → Kept m n marks lacks wants marks' lacks' wants' → {m' n' : ℕ} → m' ≡ length vc → n' ≡ length vd → Placed m' n' marks' lacks' wants' ys
+    → (out : List ℤ) → Posted cells ys out (length cells) → Table vc vd out
 laid {vc} {vd} {debits} {debits'} {w} F e N {cells} {ys = ys} L l a b K c d P out Q =
     let long : length debits' ≡ length vd = N.wrote.long ∙ e in
     let K' : Kept (length vc) (length debits') _ _ _ _ _ _ = rw (a, b ∙ sym long) at K in
     let P' : Placed (length vc) (length debits') _ _ _ ys = rw (c, d ∙ sym long) at P in
+    let full : length cells ≡ length vc * length debits' = l ∙ ap (λ (t : ℕ). length vc * t) (sym long) in
+    let marked : Marked vc debits' w ys out =
+    λ i j h k. (rw zero-add at (Q.done (i * length debits' + j) (subst (λ (t : ℕ). i * length debits' + j < t) (sym full) (below h k))))
+    ∙ ap (λ (t : ℤ). t +ℤ pos (at (length debits') ys i j - 1)) (L.cell i j h k) in
     table (given F e N).balanced long
     (λ j h. debit_is F.debits j h ∙ ap pos (sym (rw zero-add at (N.wrote.done j h))))
     (sum_is vd F.debits ∙ ap pos (sym N.total))
-    L (placed_after K' P') out
-    (λ i j h k. (rw zero-add at (Q.done (i * length debits' + j) (subst (λ (t : ℕ). i * length debits' + j < t) (sym (l
-    ∙ ap (λ (t : ℕ). length vc * t) (sym long))) (below h k)))) ∙ ap (λ (t : ℤ). t +ℤ pos (slice_index ys (i * length debits' + j) - 1)) (L.cell i j h k))
-    (Q.long ∙ l ∙ ap (λ (t : ℕ). length vc * t) (sym long))
+    L (placed_after K' P') out marked (Q.long ∙ full)
 
 -- ---- a part of a fresh array
 pub part_long : {A : Type 0} (a : A) (k n : ℕ) → n ≤ k → length (take n (replicate k a)) ≡ n

@@ -1,5 +1,6 @@
 -- The floors of the whole table, row by row, and what is left for each row and each column.
-use Rattle.std.specs.Prelude.{◌≡◌, ℕ, zero, suc, ◌+◌, ◌*◌, ◌/◌, ◌%◌, ◌<◌, ◌≤◌, min, List, length, get_or, ℤ, pos, ◌*ℤ◌, slice_index, slice_index_or, slice_set}
+use Rattle.std.specs.Prelude.{◌≡◌, ℕ, zero, suc, ◌+◌, ◌*◌, ◌/◌, ◌%◌, ◌<◌, ◌≤◌, min, List, length, get_or, ℤ, pos}
+use Rattle.std.specs.Prelude.{◌*ℤ◌, slice_index, slice_index_or, slice_set}
 use Rattle.std.proofs.Common.{sym, ap, ◌∙◌, subst, ⊎_elim, arith, mul-le-mul_right, div-add-mod', mod-lt, div-lt_iff_lt-mul, add-one}
 use Rattle.std.proofs.Math.Decide.{ℕ_discrete}
 use borrow.Author.Count.{below_more}
@@ -141,7 +142,8 @@ module _ {vc : List ℤ} {debits : List ℕ} {w : ℕ} (G : Given vc debits w) {
       other : (b : ℕ) → b < i → slice_index (slice_set lacks i k) b ≡ slice_index lacks b
       other b l = get_or-set_other lacks i b k 0 (λ q. absurd (omega arith))
 
-      go : (b j : ℕ) → b < i + 1 → j < length debits → Dec (b ≡ i) → slice_index_or cells' (b * length debits + j) (pos 0) ≡ quot_of vc debits w b j
+      go : (b j : ℕ) → b < i + 1 → j < length debits → Dec (b ≡ i)
+          → slice_index_or cells' (b * length debits + j) (pos 0) ≡ quot_of vc debits w b j
       go b j l p (yes e) = rw e (F.cell.done j p)
       go b j l p (no f) = let l' : b < i = omega arith in F.cell.before (b * length debits + j) (below l' p) ∙ R.cell b j l' p
 

@@ -28,7 +28,8 @@ kept_then a b = record {
 }
 
 -- one less at i, as a sum
-pub less_one : (l : List ℕ) (i b : ℕ) → i < length l → 0 < slice_index l i → slice_index (slice_set l i (slice_index l i - 1)) b + one b i ≡ slice_index l b
+pub less_one : (l : List ℕ) (i b : ℕ) → i < length l → 0 < slice_index l i
+    → slice_index (slice_set l i (slice_index l i - 1)) b + one b i ≡ slice_index l b
 less_one l i b h o = go (ℕ_discrete b i)
   where
     go : Dec (b ≡ i) → slice_index (slice_set l i (slice_index l i - 1)) b + one b i ≡ slice_index l b
@@ -39,8 +40,9 @@ less_one l i b h o = go (ℕ_discrete b i)
     go (no f) = rw (get_or-set_other l i b (slice_index l i - 1) 0 f) (omega (arith, one_other b i f))
 
 -- a mark at (i, j), where the row lacks one and the column wants one
-pub kept_mark : {m n : ℕ} (marks lacks wants : List ℕ) (i j : ℕ) → i < m → j < n → i * n + j < length marks → i < length lacks → j < length wants
-    → at n marks i j ≡ 1 → 0 < slice_index lacks i → 0 < slice_index wants j → Kept m n marks lacks wants (slice_set marks (i * n + j) 2)
+pub kept_mark : {m n : ℕ} (marks lacks wants : List ℕ) (i j : ℕ) → i < m → j < n → i * n + j < length marks → i < length lacks
+    → j < length wants → at n marks i j ≡ 1 → 0 < slice_index lacks i → 0 < slice_index wants j
+    → Kept m n marks lacks wants (slice_set marks (i * n + j) 2)
     (slice_set lacks i (slice_index lacks i - 1))
     (slice_set wants j (slice_index wants j - 1))
 kept_mark {m} {n} marks lacks wants i j hi hj hp hl hw e l w =
@@ -59,8 +61,8 @@ pub record Feasible (m n : ℕ) (marks lacks wants : List ℕ) : Type 0 where
   pub y : ℕ → ℕ → ℕ
   pub witness : Witness m n cap (λ i j. at n marks i j) y (λ i. row n marks i + slice_index lacks i) (λ j. col m n marks j + slice_index wants j)
 
-pub still : {m n : ℕ} {marks lacks wants marks' lacks' wants' : List ℕ} → Kept m n marks lacks wants marks' lacks' wants' → Feasible m n marks lacks wants
-    → Feasible m n marks' lacks' wants'
+pub still : {m n : ℕ} {marks lacks wants marks' lacks' wants' : List ℕ} → Kept m n marks lacks wants marks' lacks' wants'
+    → Feasible m n marks lacks wants → Feasible m n marks' lacks' wants'
 still {m} {n} k F = record {
   cap = F.cap;
   y = F.y;

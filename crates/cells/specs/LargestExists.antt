@@ -1,5 +1,6 @@
 -- Of the tables of some credits and debits one is the largest in list order (paper 02, Q-6), whatever their number and size.
-use Rattle.std.specs.Prelude.{◌≡◌, ℕ, ◌*◌, ◌/◌, ◌%◌, ◌⊎◌, List, length, ℤ, pos, ◌+ℤ◌, ◌*ℤ◌, ◌≤ℤ◌, slice_index_or}
+use Rattle.std.specs.Prelude.{◌≡◌, ℕ, ◌*◌, ◌/◌, ◌%◌, ◌⊎◌, List, length, ℤ, pos, ◌+ℤ◌, ◌*ℤ◌, ◌≤ℤ◌}
+use Rattle.std.specs.Prelude.{slice_index_or}
 use Rattle.std.proofs.Common.{subst, inl, inr}
 use Rattle.ints.specs.Floor.{floor}
 use Rattle.ints.specs.Sums.{sum_ℤ}

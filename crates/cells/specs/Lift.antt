@@ -1,5 +1,6 @@
 -- Before a row is decided its marks are lifted: its columns want them instead. After it, its columns want nothing.
-use Rattle.std.specs.Prelude.{◌≡◌, ℕ, zero, suc, ◌+◌, ◌-◌, ◌*◌, ◌<◌, ◌≤◌, List, length, ◌≢◌, slice_index, slice_index_or, slice_set, refl}
+use Rattle.std.specs.Prelude.{◌≡◌, ℕ, zero, suc, ◌+◌, ◌-◌, ◌*◌, ◌<◌, ◌≤◌, List, length, ◌≢◌, slice_index}
+use Rattle.std.specs.Prelude.{slice_index_or, slice_set, refl}
 use Rattle.std.proofs.Common.{sym, ap, ◌∙◌, subst, ⊎_elim, arith, below_none, below_more, length-set, get_or-set_same, get_or-set_other}
 use Rattle.std.proofs.Math.Decide.{ℕ_discrete}
 use Rattle.ints.specs.NatSums.{Σ, Σ_ext, Σ_swap, Σ_same, le_or_lt}
@@ -18,7 +19,8 @@ pub record Decided (m n i : ℕ) (xs₀ xs rk : List ℕ) : Type 0 where
   pub first : First m n xs₀ xs (i * n)
 
 -- at first all ranks are 0
-pub decided_none : (m n : ℕ) (xs rk : List ℕ) → ((q : ℕ) → slice_index xs q ≤ 2) → ((x : ℕ) → slice_index rk x ≡ 0) → Decided m n 0 xs xs rk
+pub decided_none : (m n : ℕ) (xs rk : List ℕ) → ((q : ℕ) → slice_index xs q ≤ 2) → ((x : ℕ) → slice_index rk x ≡ 0)
+    → Decided m n 0 xs xs rk
 decided_none m n xs rk small z = record {
   kind = kind_same xs;
   small = small;
@@ -62,8 +64,8 @@ row_close {m} {n} {i} {j} {xs₀} {xs} {wc} {rk} D hi e = record {
     own : row n xs i ≡ row n xs₀ i
     own = ⊎_elim
         (λ l. Σ_same m (λ b. row n xs b) (λ b. row n xs₀ b) (le (λ b. row n xs b) (λ b. row n xs₀ b) D.rows l) (omega (arith, same)) i hi)
-        (λ l. sym (Σ_same m (λ b. row n xs₀ b) (λ b. row n xs b) (le (λ b. row n xs₀ b) (λ b. row n xs b) (λ b k o. sym (D.rows b k o)) (omega arith))
-        (omega (arith, same)) i hi))
+        (λ l. sym (Σ_same m (λ b. row n xs₀ b) (λ b. row n xs b)
+        (le (λ b. row n xs₀ b) (λ b. row n xs b) (λ b k o. sym (D.rows b k o)) (omega arith)) (omega (arith, same)) i hi))
         (le_or_lt (row n xs i) (row n xs₀ i))
 
     rows : (b : ℕ) → b < m → Dec (b ≡ i) → row n xs b ≡ row n xs₀ b
@@ -109,7 +111,8 @@ module _ {m n i j : ℕ} {xs₁ xs wc : List ℕ} (L : Lifted m n i j xs₁ xs w
   pub lift_leave : ((q : ℕ) → slice_index xs₁ q ≤ 2) → (at n xs i j ≢ 2) → Lifted m n i (j + 1) xs₁ xs (slice_set wc j 0)
   lift_leave small f =
       let z : slice_index_or (slice_set wc j 0) j 0 ≡ 0 = get_or-set_same wc j 0 0 hw in
-      let o : (x : ℕ) → x < j → slice_index (slice_set wc j 0) x ≡ slice_index_or wc x 0 = λ x l. get_or-set_other wc j x 0 0 (λ q. absurd (omega arith)) in
+      let o : (x : ℕ) → x < j → slice_index (slice_set wc j 0) x ≡ slice_index_or wc x 0 =
+      λ x l. get_or-set_other wc j x 0 0 (λ q. absurd (omega arith)) in
       let s : at n xs₁ i j ≤ 1 = at_most (at n xs₁ i j) (small (i * n + j)) (λ q. f (same_cell ∙ q)) in
       record {
         here = omega arith;
@@ -135,7 +138,8 @@ module _ {m n i j : ℕ} {xs₁ xs wc : List ℕ} (L : Lifted m n i j xs₁ xs w
   pub lift_off : i * n + j < length xs → at n xs i j ≡ 2 → Lifted m n i (j + 1) xs₁ (slice_set xs (i * n + j) 1) (slice_set wc j 1)
   lift_off hp e =
       let z : slice_index_or (slice_set wc j 1) j 0 ≡ 1 = get_or-set_same wc j 1 0 hw in
-      let o : (x : ℕ) → x < j → slice_index (slice_set wc j 1) x ≡ slice_index_or wc x 0 = λ x l. get_or-set_other wc j x 1 0 (λ q. absurd (omega arith)) in
+      let o : (x : ℕ) → x < j → slice_index (slice_set wc j 1) x ≡ slice_index_or wc x 0 =
+      λ x l. get_or-set_other wc j x 1 0 (λ q. absurd (omega arith)) in
       let M = unmark {m = m} {n = n} xs i j hi hj hp e in
       let v : at n (slice_set xs (i * n + j) 1) i j ≡ 1 = get_or-set_same xs (i * n + j) 1 0 hp in
       let u : (x : ℕ) → x < j → at n (slice_set xs (i * n + j) 1) i x ≡ at n xs i x = λ x l. get_or-set_other xs (i * n + j) (i * n + x) 1 0

@@ -1,6 +1,7 @@
 -- Marks in a table of n columns that lies row by row in one list: 0 is a whole cell, 1 a broken one, 2 a broken one with a mark.
 -- The marks of a row and of a column, and what one mark more does to them.
-use Rattle.std.specs.Prelude.{◌≡◌, ℕ, ◌+◌, ◌-◌, ◌*◌, ◌/◌, ◌<◌, ◌≤◌, min, Bool, true, false, List, length, ◌==◌, ◌≢◌, slice_index, slice_set, refl}
+use Rattle.std.specs.Prelude.{◌≡◌, ℕ, ◌+◌, ◌-◌, ◌*◌, ◌/◌, ◌<◌, ◌≤◌, min, Bool, true, false, List, length, ◌==◌}
+use Rattle.std.specs.Prelude.{◌≢◌, slice_index, slice_set, refl}
 use Rattle.std.proofs.Common.{sym, ap, ◌∙◌, arith, eq-eqb, ne_eqb, get_or-set_same, get_or-set_other}
 use Rattle.std.proofs.Math.Decide.{ℕ_discrete}
 use Rattle.std.proofs.Math.Arith.{digits_div, digits_lt}
@@ -76,11 +77,13 @@ more {m} {n} xs ys i j hi hj e o = record {
     ))
 
 -- a mark is set, or taken back
-pub mark : {m n : ℕ} (xs : List ℕ) (i j : ℕ) → i < m → j < n → i * n + j < length xs → at n xs i j ≡ 1 → More m n xs (slice_set xs (i * n + j) 2) i j
+pub mark : {m n : ℕ} (xs : List ℕ) (i j : ℕ) → i < m → j < n → i * n + j < length xs → at n xs i j ≡ 1
+    → More m n xs (slice_set xs (i * n + j) 2) i j
 mark {m} {n} xs i j hi hj l e =
     more xs (slice_set xs (i * n + j) 2) i j hi hj (omega (arith, e, get_or-set_same xs (i * n + j) 2 0 l)) (λ p f. get_or-set_other xs (i * n + j) p 2 0 f)
 
-pub unmark : {m n : ℕ} (xs : List ℕ) (i j : ℕ) → i < m → j < n → i * n + j < length xs → at n xs i j ≡ 2 → More m n (slice_set xs (i * n + j) 1) xs i j
+pub unmark : {m n : ℕ} (xs : List ℕ) (i j : ℕ) → i < m → j < n → i * n + j < length xs → at n xs i j ≡ 2
+    → More m n (slice_set xs (i * n + j) 1) xs i j
 unmark {m} {n} xs i j hi hj l e =
     more (slice_set xs (i * n + j) 1) xs i j hi hj (omega (arith, e, get_or-set_same xs (i * n + j) 1 0 l))
     (λ p f. sym (get_or-set_other xs (i * n + j) p 1 0 f))

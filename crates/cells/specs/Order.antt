@@ -1,5 +1,6 @@
 -- From marks that are first by list order to the largest table.
-use Rattle.std.specs.Prelude.{◌≡◌, ℕ, ◌+◌, ◌-◌, ◌*◌, ◌<◌, ◌≤◌, List, length, ℤ, pos, ◌+ℤ◌, ◌-ℤ◌, ◌*ℤ◌, ◌≤ℤ◌, slice_index, slice_index_or, refl}
+use Rattle.std.specs.Prelude.{◌≡◌, ℕ, ◌+◌, ◌-◌, ◌*◌, ◌<◌, ◌≤◌, List, length, ℤ, pos, ◌+ℤ◌, ◌-ℤ◌}
+use Rattle.std.specs.Prelude.{◌*ℤ◌, ◌≤ℤ◌, slice_index, slice_index_or, refl}
 use Rattle.std.proofs.Common.{sym, ap, ◌∙◌, subst, ⊎_elim, arith, zero-add}
 use Rattle.std.proofs.Math.ListN.{get_or-eq_default}
 use Rattle.ints.specs.Bridge.{up, za, add#, sub#, eq_in}
@@ -43,7 +44,8 @@ extra {x} {w} {r} q v s f (rounded_up e broken) =
     (λ z. absurd (broken (omega (za, eq_in s.sum, z, add# (floor x (pos w) *ℤ pos w) (pos r)))))
 
 -- the marks of a line are what its floors leave of its total
-line_left : (n : ℕ) (t q : ℕ → ℤ) (b : ℕ → ℕ) (v : ℤ) (k : ℕ) → ((j : ℕ) → j < n → t j ≡ q j +ℤ pos (b j)) → Σ< n t ≡ v → v ≡ Σ< n q +ℤ pos k → Σ n b ≡ k
+line_left : (n : ℕ) (t q : ℕ → ℤ) (b : ℕ → ℕ) (v : ℤ) (k : ℕ) → ((j : ℕ) → j < n → t j ≡ q j +ℤ pos (b j)) → Σ< n t ≡ v
+    → v ≡ Σ< n q +ℤ pos k → Σ n b ≡ k
 line_left n t q b v k h e f =
     let g : Σ< n q +ℤ pos (Σ n b) ≡ Σ< n q +ℤ pos k = sym (line_sum n t q b h) ∙ e ∙ f in
     omega (za, eq_in g, add# (Σ< n q) (pos (Σ n b)), add# (Σ< n q) (pos k))
@@ -89,8 +91,9 @@ module _ {vc vd : List ℤ} {debits : List ℕ} {w : ℕ} (B : Balanced vc debit
     beyond p h = get_or-eq_default other (pos 0) (omega (arith, T.size, ap (λ (t : ℕ). length vc * t) long))
 
   -- ---- the largest table
-  pub largest : {zs : List ℕ} → First (length vc) (length debits) ys zs (length vc * length debits) → Placed (length vc) (length debits) marks lacks wants zs
-      → (out : List ℤ) → Marked vc debits w zs out → length out ≡ length vc * length debits → Largest (Table vc vd) out
+  pub largest : {zs : List ℕ} → First (length vc) (length debits) ys zs (length vc * length debits)
+      → Placed (length vc) (length debits) marks lacks wants zs → (out : List ℤ) → Marked vc debits w zs out
+      → length out ≡ length vc * length debits → Largest (Table vc vd) out
   largest {zs} L P' out put l = record {
     table = T';
     first = λ other T p same. ⊎_elim (λ h. rw (beyond other T p h, beyond out T' p h) (≤_refl (pos 0)))
@@ -104,8 +107,9 @@ module _ {vc vd : List ℤ} {debits : List ℕ} {w : ℕ} (B : Balanced vc debit
       ours = everywhere (length vc) (length debits) (λ p. slice_index_or out p (pos 0) ≡ slice_index_or cells p (pos 0) +ℤ pos (mk zs p))
           (λ i j h k. put i j h k ∙ ap (λ (q : ℤ). q +ℤ pos (mk zs (i * length debits + j))) (sym (F.cell i j h k)))
 
-      inside : (other : List ℤ) → Table vc vd other → (p : ℕ) → ((q : ℕ) → q < p → slice_index_or other q (pos 0) ≡ slice_index_or out q (pos 0))
-          → p < length vc * length debits → slice_index_or other p (pos 0) ≤ℤ slice_index_or out p (pos 0)
+      inside : (other : List ℤ) → Table vc vd other → (p : ℕ)
+          → ((q : ℕ) → q < p → slice_index_or other q (pos 0) ≡ slice_index_or out q (pos 0)) → p < length vc * length debits
+          → slice_index_or other p (pos 0) ≤ℤ slice_index_or out p (pos 0)
       inside other T p same h =
           let le : above cells other p ≤ mk zs p = L.first (above cells other) (other_marks other T) p h
           (λ q k. up_is (slice_index_or other q (pos 0)) (slice_index_or cells q (pos 0)) (mk zs q) (same q k ∙ ours q (omega arith))) in
@@ -141,8 +145,8 @@ module _ {vc vd : List ℤ} {debits debits' : List ℕ} {w : ℕ} (A : Fillable 
       (rw zero-add at (Q.done (i * length debits' + j) (subst (λ (t : ℕ). i * length debits' + j < t) (sym size) (below h k))))
       ∙ ap (λ (t : ℤ). t +ℤ pos (at (length debits') zs i j - 1)) (F.cell i j h k)
 
-  pub laid_largest : {zs : List ℕ} {m'' n'' : ℕ} → m'' ≡ length vc → n'' ≡ length vd → Led m'' n'' ys zs → (out : List ℤ) → Posted cells zs out (length cells)
-      → Largest (Table vc vd) out
+  pub laid_largest : {zs : List ℕ} {m'' n'' : ℕ} → m'' ≡ length vc → n'' ≡ length vd → Led m'' n'' ys zs → (out : List ℤ)
+      → Posted cells zs out (length cells) → Largest (Table vc vd) out
   laid_largest {zs} a'' b'' D out Q =
       let D' : Led (length vc) (length debits') ys zs = rw (a'', b'' ∙ sym long) at D in
       largest (given A e N).balanced long (written_debit A e N) (written_sum A e N) F placed D'.first (placed_led placed D') out

@@ -1,5 +1,6 @@
 -- The pass, cell by cell: what a cell that stays, a cell that is marked and a search that finds nothing do to the row at hand.
-use Rattle.std.specs.Prelude.{◌≡◌, ℕ, zero, suc, ◌+◌, ◌-◌, ◌*◌, ◌/◌, ◌%◌, ◌<◌, ◌≤◌, ◌⊎◌, List, length, ◌≢◌, slice_index, slice_index_or, slice_set, refl}
+use Rattle.std.specs.Prelude.{◌≡◌, ℕ, zero, suc, ◌+◌, ◌-◌, ◌*◌, ◌/◌, ◌%◌, ◌<◌, ◌≤◌, ◌⊎◌, List, length}
+use Rattle.std.specs.Prelude.{◌≢◌, slice_index, slice_index_or, slice_set, refl}
 use Rattle.std.proofs.Common.{sym, ap, ◌∙◌, subst, inl, inr, ⊎_elim, arith, div-add-mod', div-lt_iff_lt-mul, mod-lt, below_more, get_or-set_same}
 use Rattle.std.proofs.Common.{get_or-set_other}
 use Rattle.std.proofs.Math.Decide.{ℕ_discrete}
@@ -10,11 +11,13 @@ use Rattle.cells.specs.First.{mk, Other, First}
 use Rattle.cells.specs.Ranks.{Deciding, settled}
 
 -- ---- first by list order one cell further: the cells before it are the same, and it cannot hold more
-first_more : {m n : ℕ} {xs₀ xs zs : List ℕ} {P Q : ℕ} → First m n xs₀ xs P → Q ≡ P + 1 → ((q : ℕ) → q < P → slice_index zs q ≡ slice_index xs q)
+first_more : {m n : ℕ} {xs₀ xs zs : List ℕ} {P Q : ℕ} → First m n xs₀ xs P → Q ≡ P + 1
+    → ((q : ℕ) → q < P → slice_index zs q ≡ slice_index xs q)
     → ((y : ℕ → ℕ) → Other m n xs₀ y → ((q : ℕ) → q < P → y q ≡ mk xs q) → y P ≤ mk zs P) → First m n xs₀ zs Q
 first_more {m} {n} {xs₀} {xs} {zs} {P} {Q} F e same here = record { first = λ y O p l agree. go y O p l agree (le_or_lt P p) }
   where
-    go : (y : ℕ → ℕ) → Other m n xs₀ y → (p : ℕ) → p < Q → ((q : ℕ) → q < p → y q ≡ mk zs q) → (P ≤ p) ⊎ (p < P) → y p ≤ mk zs p
+    go : (y : ℕ → ℕ) → Other m n xs₀ y → (p : ℕ) → p < Q → ((q : ℕ) → q < p → y q ≡ mk zs q) → (P ≤ p) ⊎ (p < P)
+        → y p ≤ mk zs p
     go y O p l agree (inr h) =
         omega (arith, same p h, F.first y O p h (λ q k. agree q k ∙ ap (λ (v : ℕ). v - 1) (same q (omega arith))))
     go y O p l agree (inl h) =
@@ -22,8 +25,8 @@ first_more {m} {n} {xs₀} {xs} {zs} {P} {Q} F e same here = record { first = λ
         subst (λ (k : ℕ). y k ≤ mk zs k) z (here y O (λ q k. agree q (omega arith) ∙ ap (λ (v : ℕ). v - 1) (same q k)))
 
 -- a cell before (i, j) lies in an earlier row, or in row i before j
-pub earlier : (xs ys : List ℕ) (n i j : ℕ) → ((b x : ℕ) → b ≤ i → x < n → at n ys b x ≡ at n xs b x) → j ≤ n → (q : ℕ) → q < i * n + j
-    → slice_index ys q ≡ slice_index xs q
+pub earlier : (xs ys : List ℕ) (n i j : ℕ) → ((b x : ℕ) → b ≤ i → x < n → at n ys b x ≡ at n xs b x) → j ≤ n → (q : ℕ)
+    → q < i * n + j → slice_index ys q ≡ slice_index xs q
 earlier xs ys n i j same h q l = go n refl
   where
     go : (k : ℕ) → n ≡ k → slice_index ys q ≡ slice_index xs q
@@ -70,7 +73,8 @@ module _ {m n i j : ℕ} {xs₀ xs wc rk : List ℕ} (D : Deciding m n i j xs₀
   stay_settled p l none = stay (none j (omega arith) hj l) (λ y O agree. settled D hi y O agree p none hj l)
 
   -- a wanted column has at least the rank of a broken one that is not
-  pub wanted_rank : at n xs i j ≡ 1 → slice_index wc j ≡ 0 → (x : ℕ) → j ≤ x → x < n → 0 < slice_index wc x → slice_index rk j ≤ slice_index rk x
+  pub wanted_rank : at n xs i j ≡ 1 → slice_index wc j ≡ 0 → (x : ℕ) → j ≤ x → x < n → 0 < slice_index wc x
+      → slice_index rk j ≤ slice_index rk x
   wanted_rank e w x l h o = D.lifted x j l h (omega arith) hj o w e
 
   -- ---- the cell is marked: ys differs from xs in later rows alone, and with this mark every column has or wants what it had or wanted

@@ -1,6 +1,7 @@
 -- xs holds the cells' states, wr what each row lacks, wc what each column wants, ro and co what is open.
 -- The driver: every row gets the marks that it wants, and so does every column, wherever some table of numbers (Feasible) says that this can be.
-use Rattle.std.specs.Prelude.{◌≡◌, ℕ, ◌+◌, ◌-◌, ◌*◌, ◌<◌, ◌≤◌, ◌≢◌, Bool, true, false, List, length, slice_index, slice_index_or, slice_set, refl}
+use Rattle.std.specs.Prelude.{◌≡◌, ℕ, ◌+◌, ◌-◌, ◌*◌, ◌<◌, ◌≤◌, ◌≢◌, Bool, true, false, List, length, slice_index}
+use Rattle.std.specs.Prelude.{slice_index_or, slice_set, refl}
 use Rattle.std.proofs.Common.{sym, ap, ◌∙◌, arith, below_none, below_more, length-set, get_or-set_same, get_or-set_other}
 use Rattle.std.proofs.lemmas.List.{set-get_or, set-set}
 use Rattle.std.proofs.Math.Nat.{le_of_mul-le-mul_left}
@@ -24,8 +25,9 @@ pub record Placed (m n : ℕ) (xs wr wc ys : List ℕ) : Type 0 where
   pub kind : Kind xs ys
 
 -- ---- a row that wants a mark finds one
-pub never : {m n : ℕ} {xs wr wc ro co ro' co' : List ℕ} → Feasible m n xs wr wc → ((p : ℕ) → slice_index xs p ≤ 2) → ((b : ℕ) → b < m → 0 < slice_index ro b)
-    → ((x : ℕ) → x < n → 0 < slice_index co x) → Shut m n xs wc ro co ro' co' → (i : ℕ) → i < m → slice_index ro' i ≡ 0 → 0 < slice_index wr i → ⊥
+pub never : {m n : ℕ} {xs wr wc ro co ro' co' : List ℕ} → Feasible m n xs wr wc → ((p : ℕ) → slice_index xs p ≤ 2)
+    → ((b : ℕ) → b < m → 0 < slice_index ro b) → ((x : ℕ) → x < n → 0 < slice_index co x) → Shut m n xs wc ro co ro' co' → (i : ℕ)
+    → i < m → slice_index ro' i ≡ 0 → 0 < slice_index wr i → ⊥
 unfolding row col
 never {m} {n} {xs} {wr} {wc} {ro} {co} {ro'} {co'} F small o o' S i hi z w =
     let e : row n xs i ≡ row n xs i + slice_index_or wr i 0 =
@@ -40,7 +42,8 @@ never {m} {n} {xs} {wr} {wc} {ro} {co} {ro'} {co'} F small o o' S i hi z w =
     omega arith
 
 -- ---- where the rows want nothing more, the columns do not
-pub rest : {m n : ℕ} {xs wr wc : List ℕ} → Feasible m n xs wr wc → ((b : ℕ) → b < m → slice_index wr b ≡ 0) → (x : ℕ) → x < n → slice_index wc x ≡ 0
+pub rest : {m n : ℕ} {xs wr wc : List ℕ} → Feasible m n xs wr wc → ((b : ℕ) → b < m → slice_index wr b ≡ 0) → (x : ℕ) → x < n
+    → slice_index wc x ≡ 0
 unfolding row col
 rest {m} {n} {xs} {wr} {wc} F z x hx =
     let W = F.witness in
@@ -59,7 +62,8 @@ rest {m} {n} {xs} {wr} {wc} F z x hx =
 -- ---- one mark more: the visit of row i, which lacks one, from open rows and columns
 module _ {m n : ℕ} {xs wr wc xs' wr' wc' : List ℕ} (K : Kept m n xs wr wc xs' wr' wc') (F : Feasible m n xs wr wc) (small : (p : ℕ)
     → slice_index xs p ≤ 2) {i : ℕ} (hi : i < m) (hw : i < length wr') (w : 0 < slice_index wr' i) where
-  pub kept_more : {ro co : List ℕ} → ((b : ℕ) → b < m → 0 < slice_index ro b) → ((x : ℕ) → x < n → 0 < slice_index co x) → {ys wd ro'' co'' : List ℕ}
+  pub kept_more : {ro co : List ℕ} → ((b : ℕ) → b < m → 0 < slice_index ro b) → ((x : ℕ) → x < n → 0 < slice_index co x)
+      → {ys wd ro'' co'' : List ℕ}
       (r : Bool) → RowVisited m n xs' wc' ro co ys wd ro'' co'' i r → length ys ≡ length xs' → length wd ≡ length wc'
       → Kept m n xs wr wc ys (slice_set wr' i (slice_index wr' i - 1)) wd
   kept_more {ro} {co} open_row open_col {ys} {wd} {ro''} {co''} r v ly lw = with_found (found r v)

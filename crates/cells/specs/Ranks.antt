@@ -1,7 +1,8 @@
 -- Ranks of columns, and why a cell cannot be raised. In a row a marked column has at least the rank of every broken column without a mark.
 -- So of the row's marks the columns of rank p or less have as few as can be, whatever p (`fewest`): another choice gives them as many or more.
 -- Where that holds of all rows after row i, the columns of rank p or less can give row i nothing (`settled`).
-use Rattle.std.specs.Prelude.{◌≡◌, ℕ, zero, suc, ◌+◌, ◌-◌, ◌*◌, ◌<◌, ◌≤◌, Bool, true, false, ltb, ◌⊎◌, List, ◌≢◌, nat_lt, slice_index}
+use Rattle.std.specs.Prelude.{◌≡◌, ℕ, zero, suc, ◌+◌, ◌-◌, ◌*◌, ◌<◌, ◌≤◌, Bool, true, false, ltb, ◌⊎◌, List}
+use Rattle.std.specs.Prelude.{◌≢◌, nat_lt, slice_index}
 use Rattle.std.proofs.Math.Path.{refl, sym, ap}
 use Rattle.std.proofs.Common.{◌∙◌, inl, inr, not-suc-le-zero}
 use Rattle.std.proofs.Math.Logic.{⊎_elim}
@@ -106,7 +107,9 @@ module _ (n : ℕ) (s y rank : ℕ → ℕ) (p : ℕ) (small : (x : ℕ) → x <
       up q (suc (suc v)) z = omega (arith, after_yes p (rank x) (y x) q, after_yes p (rank x) (s x - 1) q, most x hx)
 
   fewest : Σ n (λ x. up_to p (rank x) (s x - 1)) ≤ Σ n (λ x. up_to p (rank x) (y x))
-  fewest = ⊎_elim (λ l. omega arith) (λ l. with_mark (some_term n (λ x. up_to p (rank x) (s x - 1)) l)) (le_or_lt (Σ n (λ x. up_to p (rank x) (s x - 1))) 0)
+  fewest =
+      ⊎_elim (λ l. omega arith) (λ l. with_mark (some_term n (λ x. up_to p (rank x) (s x - 1)) l))
+      (le_or_lt (Σ n (λ x. up_to p (rank x) (s x - 1))) 0)
     where
       with_mark : (k : ℕ) × (k < n) × (0 < up_to p (rank k) (s k - 1)) → Σ n (λ x. up_to p (rank x) (s x - 1)) ≤ Σ n (λ x. up_to p (rank x) (y x))
       with_mark k = ⊎_elim low (λ l. absurd (omega (arith, k.2, up_to_no p (rank k.0) (s k.0 - 1) l))) (le_or_lt (rank k.0) p)
@@ -167,7 +170,8 @@ module _ {m n i j : ℕ} {xs₀ xs wc rk : List ℕ} (D : Deciding m n i j xs₀
         turn false true v = refl
         turn false false v = refl
 
-    one_row : (a : ℕ) → a < m → i < a → Σ n (λ x. up_to p (slice_index rk x) (at n xs a x - 1)) ≤ Σ n (λ x. up_to p (slice_index rk x) (y (a * n + x)))
+    one_row : (a : ℕ) → a < m → i < a
+        → Σ n (λ x. up_to p (slice_index rk x) (at n xs a x - 1)) ≤ Σ n (λ x. up_to p (slice_index rk x) (y (a * n + x)))
     unfolding row
     one_row a ha l =
         fewest n (λ x. at n xs a x) (λ x. y (a * n + x)) (λ x. slice_index rk x) p (λ x h. D.small (a * n + x)) (λ x h. O.most a x ha h)

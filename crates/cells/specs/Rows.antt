@@ -1,6 +1,7 @@
 -- One row's floors: its cells, which of them are broken, the remainders added to the columns' sums, and the row's own sum.
 -- A sum of remainders is kept as a number of whole multiples of w and what is left, which is below w.
-use Rattle.std.specs.Prelude.{◌≡◌, ℕ, ◌+◌, ◌-◌, ◌*◌, ◌<◌, ◌≤◌, min, List, length, ℤ, pos, ◌*ℤ◌, slice_index, slice_index_or, slice_set}
+use Rattle.std.specs.Prelude.{◌≡◌, ℕ, ◌+◌, ◌-◌, ◌*◌, ◌<◌, ◌≤◌, min, List, length, ℤ, pos, ◌*ℤ◌, slice_index}
+use Rattle.std.specs.Prelude.{slice_index_or, slice_set}
 use Rattle.std.proofs.Math.Path.{refl, ap}
 use Rattle.std.proofs.Common.{◌∙◌, arith, add-one, below_none, below_more, length-set, get_or-set_same, get_or-set_other}
 use Rattle.ints.specs.Bridge.{abs}
@@ -41,7 +42,8 @@ summed_none w f wants lefts = record {
 }
 
 -- the sum s of what was left and the new term, less the c multiples of w that go over
-carried : (w c s a b a' b' r : ℕ) → s ≡ b + r → Carried s w c → a' ≡ a + c → b' ≡ s - c * w → (a' * w + b' ≡ a * w + b + r) × (b' < w) × (a' ≤ a + 1)
+carried : (w c s a b a' b' r : ℕ) → s ≡ b + r → Carried s w c → a' ≡ a + c → b' ≡ s - c * w
+    → (a' * w + b' ≡ a * w + b + r) × (b' < w) × (a' ≤ a + 1)
 carried w c s a b a' b' r e C g h =
     let p : a' * w ≡ (a + c) * w = ap (λ (t : ℕ). t * w) g in
     (omega (arith, C.low), omega (arith, C.low, C.high), omega (arith, C.once))
@@ -85,8 +87,8 @@ pub record RowAsks (v : ℤ) (debits : List ℕ) (w : ℕ) (cells : List ℤ) (m
   pub few : (k : ℕ) → slice_index wants k ≤ 257
   pub less : (k : ℕ) → slice_index lefts k < w
 
-pub record RowFloors (v : ℤ) (debits : List ℕ) (w : ℕ) (cells : List ℤ) (marks wants lefts : List ℕ) (base : ℕ) (cells' : List ℤ) (marks' wants' lefts'
-    : List ℕ) (j lacks : ℕ) : Type 0 where
+pub record RowFloors (v : ℤ) (debits : List ℕ) (w : ℕ) (cells : List ℤ) (marks wants lefts : List ℕ) (base : ℕ) (cells' : List ℤ)
+    (marks' wants' lefts' : List ℕ) (j lacks : ℕ) : Type 0 where
   pub here : j ≤ length debits
   pub cell : Filled (pos 0) base (quot_at v debits w) cells cells' j
   pub mark : Filled 0 base (λ k. min 1 (rest_at v debits w k)) marks marks' j
@@ -95,15 +97,15 @@ pub record RowFloors (v : ℤ) (debits : List ℕ) (w : ℕ) (cells : List ℤ) 
   pub high : Σ j (rest_at v debits w) < lacks * w + w
 
 -- the loop holds what is left of the row's sum too
-pub record RowGoing (v : ℤ) (debits : List ℕ) (w : ℕ) (cells : List ℤ) (marks wants lefts : List ℕ) (base : ℕ) (cells' : List ℤ) (marks' wants' lefts' : List ℕ)
-    (j lacks left : ℕ) : Type 0 where
+pub record RowGoing (v : ℤ) (debits : List ℕ) (w : ℕ) (cells : List ℤ) (marks wants lefts : List ℕ) (base : ℕ) (cells' : List ℤ)
+    (marks' wants' lefts' : List ℕ) (j lacks left : ℕ) : Type 0 where
   pub row : RowFloors v debits w cells marks wants lefts base cells' marks' wants' lefts' j lacks
   pub total : lacks * w + left ≡ Σ j (rest_at v debits w)
   pub less : left < w
   pub few : lacks ≤ j
 
-pub row_start : {v : ℤ} {debits : List ℕ} {w : ℕ} {cells : List ℤ} {marks wants lefts : List ℕ} {base : ℕ} → RowAsks v debits w cells marks wants lefts base
-    → RowGoing v debits w cells marks wants lefts base cells marks wants lefts 0 0 0
+pub row_start : {v : ℤ} {debits : List ℕ} {w : ℕ} {cells : List ℤ} {marks wants lefts : List ℕ} {base : ℕ}
+    → RowAsks v debits w cells marks wants lefts base → RowGoing v debits w cells marks wants lefts base cells marks wants lefts 0 0 0
 unfolding Σ
 row_start {v} {debits} {w} {cells} {marks} {wants} {lefts} {base} A = record {
   row = record {
@@ -119,9 +121,9 @@ row_start {v} {debits} {w} {cells} {marks} {wants} {lefts} {base} A = record {
   few = omega arith;
 }
 
-module _ {v : ℤ} {debits : List ℕ} {w : ℕ} {cells : List ℤ} {marks wants lefts : List ℕ} {base : ℕ} (A : RowAsks v debits w cells marks wants lefts base)
-    {cells' : List ℤ} {marks' wants' lefts' : List ℕ} {j lacks left : ℕ} (R : RowGoing v debits w cells marks wants lefts base cells' marks' wants' lefts' j
-    lacks left) (h : j < length debits) where
+module _ {v : ℤ} {debits : List ℕ} {w : ℕ} {cells : List ℤ} {marks wants lefts : List ℕ} {base : ℕ}
+    (A : RowAsks v debits w cells marks wants lefts base) {cells' : List ℤ} {marks' wants' lefts' : List ℕ} {j lacks left : ℕ}
+    (R : RowGoing v debits w cells marks wants lefts base cells' marks' wants' lefts' j lacks left) (h : j < length debits) where
   rest_less : rest_at v debits w j < w
   rest_less = (rest_split (v *ℤ pos (slice_index debits j)) w A.some).less
 
@@ -136,8 +138,8 @@ module _ {v : ℤ} {debits : List ℕ} {w : ℕ} {cells : List ℤ} {marks wants
   column_few = omega (arith, A.few j, (R.row.sum.later j (omega arith)).0)
 
   pub row_more : (q : ℤ) (r : ℕ) → q ≡ quot_at v debits w j → r ≡ rest_at v debits w j → (b : ℕ) → b ≡ min 1 r → (c : ℕ)
-      → Carried (slice_index lefts' j + r) w c
-      → (d : ℕ) → Carried (left + r) w d → RowGoing v debits w cells marks wants lefts base (slice_set cells' (base + j) q) (slice_set marks' (base + j) b)
+      → Carried (slice_index lefts' j + r) w c → (d : ℕ) → Carried (left + r) w d
+      → RowGoing v debits w cells marks wants lefts base (slice_set cells' (base + j) q) (slice_set marks' (base + j) b)
       (slice_set wants' j (slice_index wants' j + c)) (slice_set lefts' j (slice_index lefts' j + r - c * w)) (j + 1) (lacks + d) (left + r - d * w)
   unfolding Σ
   row_more q r eq er b eb c C d D =

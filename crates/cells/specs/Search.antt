@@ -1,6 +1,7 @@
 -- The search as a theorem, for tables of any size: a visit always ends, with a mark found or with its part closed. By induction on what
 -- is still open, from the same steps that the code takes.
-use Rattle.std.specs.Prelude.{◌≡◌, ℕ, zero, suc, ◌+◌, ◌-◌, ◌*◌, ◌<◌, ◌≤◌, Bool, true, false, Option, Some, None, List, length, replicate, refl}
+use Rattle.std.specs.Prelude.{◌≡◌, ℕ, zero, suc, ◌+◌, ◌-◌, ◌*◌, ◌<◌, ◌≤◌, Bool, true, false, Option, Some, None, List}
+use Rattle.std.specs.Prelude.{length, replicate, refl}
 use Rattle.std.specs.Prelude.{slice_index, slice_index_or, slice_set}
 use Rattle.std.proofs.Common.{sym, ap, ap₂, ◌∙◌, arith, length-set}
 use Rattle.std.proofs.Math.Decide.{ℕ_discrete, dec_lt}
@@ -41,16 +42,16 @@ Rows k = (marks wants rows columns : List ℕ) (i : ℕ) → Shape marks wants r
     → RowAnswer marks wants rows columns i
 
 abbrev Cols : ℕ → Type 0
-Cols k = (marks wants rows columns : List ℕ) (j : ℕ) → Shape marks wants rows columns → j < length columns → 0 < slice_index columns j → slice_index wants j ≡ 0
-    → total rows + total columns ≤ k → ColAnswer marks wants rows columns j
+Cols k = (marks wants rows columns : List ℕ) (j : ℕ) → Shape marks wants rows columns → j < length columns → 0 < slice_index columns j
+    → slice_index wants j ≡ 0 → total rows + total columns ≤ k → ColAnswer marks wants rows columns j
 
 -- ---- a column that the row can take at once, or none
 record FreeAt (n : ℕ) (marks wants columns : List ℕ) (i : ℕ) : Type 0 where
   place : Option ℕ
   free : Free n marks wants columns i place
 
-free_from : (n : ℕ) (marks wants columns : List ℕ) (i d j : ℕ) (best : Option ℕ) (most : ℕ) → j + d ≡ n → FreeInv n marks wants columns i best most j
-    → FreeAt n marks wants columns i
+free_from : (n : ℕ) (marks wants columns : List ℕ) (i d j : ℕ) (best : Option ℕ) (most : ℕ) → j + d ≡ n
+    → FreeInv n marks wants columns i best most j → FreeAt n marks wants columns i
 free_from n marks wants columns i zero j best most e I = record { place = best; free = free_end best I (omega arith) }
 free_from n marks wants columns i (suc d) j best most e I = go (dec_lt most (slice_index wants j)) (ℕ_discrete (at n marks i j) 1)
     (dec_lt 0 (slice_index columns j))
@@ -235,7 +236,8 @@ module _ (m n : ℕ) (marks lacks wants : List ℕ) (F : Feasible m n marks lack
     → slice_index marks p ≤ 2) (cells : length marks ≡ m * n) (tall : length lacks ≡ m) (wide : length wants ≡ n) where
   place_from : (k i : ℕ) {ms ls ws : List ℕ} → Going m n marks lacks wants ms ls ws i → m - i + total ls ≤ k → AllPlaced m n marks lacks wants
   place_from zero i {ms} g b = record { marks' = ms; placed = going_end g F (omega arith) }
-  place_from (suc k) i {ms} {ls} {ws} g b = go (dec_lt i m) (ℕ_discrete (slice_index ls i) 0) (λ h. place_from k (i + 1) h) (λ ms' ls' ws' h. place_from k i h)
+  place_from (suc k) i {ms} {ls} {ws} g b =
+      go (dec_lt i m) (ℕ_discrete (slice_index ls i) 0) (λ h. place_from k (i + 1) h) (λ ms' ls' ws' h. place_from k i h)
     where
       go : Dec (i < m) → Dec (slice_index ls i ≡ 0) → (Going m n marks lacks wants ms ls ws (i + 1) → m - (i + 1) + total ls ≤ k
           → AllPlaced m n marks lacks wants) → ((ms' ls' ws' : List ℕ) → Going m n marks lacks wants ms' ls' ws' i → m - i + total ls' ≤ k
@@ -264,7 +266,8 @@ module _ (m n : ℕ) (marks lacks wants : List ℕ) (F : Feasible m n marks lack
           by : RowAnswer ms ws (ones m) (ones n) i → AllPlaced m n marks lacks wants
           by a =
               on _ _ _
-              (going_on g (kept_more g.kept F small h within lacking (all_open m) (all_open n) a.found (rw (rows_long, columns_long) at a.visited) a.cells a.wide))
+              (going_on g
+              (kept_more g.kept F small h within lacking (all_open m) (all_open n) a.found (rw (rows_long, columns_long) at a.visited) a.cells a.wide))
               (omega (arith, total_set ls i (slice_index ls i - 1) within, lacking))
 
   pub all_placed : AllPlaced m n marks lacks wants

@@ -2,7 +2,8 @@
 -- exchange the cell is marked, and ranks stay right since every row has swapped marks within one rank. Where it finds none the columns that it
 -- reached keep their rank, and the others of that rank and above go one up: no row has a mark in what was reached and a broken unmarked cell
 -- outside.
-use Rattle.std.specs.Prelude.{◌≡◌, ℕ, zero, suc, ◌+◌, ◌-◌, ◌*◌, ◌<◌, ◌≤◌, ◌⊎◌, List, length, ◌≢◌, slice_index, slice_index_or, slice_set, refl}
+use Rattle.std.specs.Prelude.{◌≡◌, ℕ, zero, suc, ◌+◌, ◌-◌, ◌*◌, ◌<◌, ◌≤◌, ◌⊎◌, List, length, ◌≢◌}
+use Rattle.std.specs.Prelude.{slice_index, slice_index_or, slice_set, refl}
 use Rattle.std.proofs.Math.Path.{sym, ap}
 use Rattle.std.proofs.Common.{◌∙◌, inl, inr}
 use Rattle.std.proofs.Math.Logic.{⊎_elim}
@@ -108,7 +109,8 @@ module _ {m n i j : ℕ} {xs₀ xs wc rk : List ℕ} (D : Deciding m n i j xs₀
         ⊎_elim (λ u. D.lifted x x' (omega arith) h (omega arith) h' o' (omega arith) a) (λ u. go u r (ℕ_discrete (slice_index rk x') (slice_index rk j)))
         (le_or_lt (slice_index wc x') 0)
       where
-        go : 0 < slice_index wc x' → slice_index rk j ≤ slice_index rk x → Dec (slice_index rk x' ≡ slice_index rk j) → slice_index rk x' ≤ slice_index rk x
+        go : 0 < slice_index wc x' → slice_index rk j ≤ slice_index rk x → Dec (slice_index rk x' ≡ slice_index rk j)
+            → slice_index rk x' ≤ slice_index rk x
         go u r (yes q) = omega arith
         go u r (no f) =
             let s : col m n ys x' ≡ col m n xs x' = Σ_ext m _ _ (λ b k. ap (λ (v : ℕ). v - 1) (fixed x' h' f b)) in

@@ -1,6 +1,7 @@
 -- The loops of the two visits. A visit of row i begins with ro at i set to 0, and goes through the columns; a visit of column j goes through the rows.
 -- Unprimed lists are those at the visit's entry, primed ones those at the loop's head.
-use Rattle.std.specs.Prelude.{◌≡◌, ℕ, zero, suc, ◌+◌, ◌-◌, ◌*◌, ◌<◌, ◌≤◌, Bool, true, false, Some, None, List, length, slice_index, slice_set, refl}
+use Rattle.std.specs.Prelude.{◌≡◌, ℕ, zero, suc, ◌+◌, ◌-◌, ◌*◌, ◌<◌, ◌≤◌, Bool, true, false, Some, None, List, length}
+use Rattle.std.specs.Prelude.{slice_index, slice_set, refl}
 use Rattle.std.proofs.Common.{sym, ◌∙◌, arith, below_none, below_more}
 use Rattle.ints.specs.NatSums.{total, total_set}
 use Rattle.cells.specs.Marks.{at, below}
@@ -18,8 +19,8 @@ pub turn_start : {m n : ℕ} (xs wc ro co : List ℕ) → length ro ≡ m → le
 turn_start {m} {n} xs wc ro co a b = record { same = refl; wants = refl; shut = shut_none m n xs wc ro co; tall = a; long = b }
 
 -- a visit that found nothing
-pub turn_next : {m n : ℕ} {xs wc ro co xs' wc' ro' co' xs'' wc'' ro'' co'' : List ℕ} → Turn m n xs wc ro co xs' wc' ro' co' → xs'' ≡ xs' → wc'' ≡ wc'
-    → Shut m n xs' wc' ro' co' ro'' co'' → length ro'' ≡ m → length co'' ≡ n → Turn m n xs wc ro co xs'' wc'' ro'' co''
+pub turn_next : {m n : ℕ} {xs wc ro co xs' wc' ro' co' xs'' wc'' ro'' co'' : List ℕ} → Turn m n xs wc ro co xs' wc' ro' co' → xs'' ≡ xs'
+    → wc'' ≡ wc' → Shut m n xs' wc' ro' co' ro'' co'' → length ro'' ≡ m → length co'' ≡ n → Turn m n xs wc ro co xs'' wc'' ro'' co''
 turn_next t a b s p q = record {
   same = a ∙ t.same;
   wants = b ∙ t.wants;
@@ -32,13 +33,16 @@ pub true_false : {A : Type 0} (r : Bool) → r ≡ true → r ≡ false → A
 true_false r a b = let z : ◌≡◌ {A = Bool} true false = sym a ∙ b in let y : ◌≡◌ {A = ℕ} 0 1 = cc in absurd (omega arith)
 
 -- ---- a visit of row i: the columns below j are done. ro is as the loop finds it, with row i visited
-abbrev pub RowInv : ℕ → ℕ → List ℕ → List ℕ → List ℕ → List ℕ → ℕ → List ℕ → List ℕ → List ℕ → List ℕ → ℕ → Type 0
-RowInv m n xs wc ro co i xs' wc' ro' co' j = Turn m n xs wc ro co xs' wc' ro' co' × (j ≤ n) × ((x : ℕ) → x < j → at n xs i x ≡ 1 → slice_index co' x ≡ 0)
+abbrev pub RowInv : ℕ → ℕ → List ℕ → List ℕ → List ℕ → List ℕ → ℕ → List ℕ → List ℕ → List ℕ → List ℕ → ℕ
+    → Type 0
+RowInv m n xs wc ro co i xs' wc' ro' co' j = Turn m n xs wc ro co xs' wc' ro' co' × (j ≤ n)
+    × ((x : ℕ) → x < j → at n xs i x ≡ 1 → slice_index co' x ≡ 0)
 
 pub row_start : {m n : ℕ} (xs wc ro co : List ℕ) (i : ℕ) → length ro ≡ m → length co ≡ n → RowInv m n xs wc ro co i xs wc ro co 0
 row_start xs wc ro co i a b = (turn_start xs wc ro co a b, omega arith, below_none _)
 
-module _ {m n : ℕ} {xs wc ro co : List ℕ} (i : ℕ) {xs' wc' ro' co' : List ℕ} (j : ℕ) (I : RowInv m n xs wc ro co i xs' wc' ro' co' j) (hj : j < n) where
+module _ {m n : ℕ} {xs wc ro co : List ℕ} (i : ℕ) {xs' wc' ro' co' : List ℕ} (j : ℕ) (I : RowInv m n xs wc ro co i xs' wc' ro' co' j)
+    (hj : j < n) where
   pub row_skip : (at n xs' i j ≡ 1 → slice_index co' j ≡ 0) → RowInv m n xs wc ro co i xs' wc' ro' co' (j + 1)
   row_skip f = (I.0, omega arith, below_more _ _ I.2 (rw I.0.same at f))
 
@@ -78,13 +82,16 @@ module _ {m n : ℕ} {xs wc : List ℕ} (ro : List ℕ) {co : List ℕ} (i : ℕ
       record { found = λ e. true_false false e refl; none = λ _. (I.0.same, I.0.wants, s.0, s.1) }
 
 -- ---- a visit of column j: the rows below i are done
-abbrev pub ColInv : ℕ → ℕ → List ℕ → List ℕ → List ℕ → List ℕ → ℕ → List ℕ → List ℕ → List ℕ → List ℕ → ℕ → Type 0
-ColInv m n xs wc ro co j xs' wc' ro' co' i = Turn m n xs wc ro co xs' wc' ro' co' × (i ≤ m) × ((b : ℕ) → b < i → at n xs b j ≡ 2 → slice_index ro' b ≡ 0)
+abbrev pub ColInv : ℕ → ℕ → List ℕ → List ℕ → List ℕ → List ℕ → ℕ → List ℕ → List ℕ → List ℕ → List ℕ → ℕ
+    → Type 0
+ColInv m n xs wc ro co j xs' wc' ro' co' i = Turn m n xs wc ro co xs' wc' ro' co' × (i ≤ m)
+    × ((b : ℕ) → b < i → at n xs b j ≡ 2 → slice_index ro' b ≡ 0)
 
 pub col_start : {m n : ℕ} (xs wc ro co : List ℕ) (j : ℕ) → length ro ≡ m → length co ≡ n → ColInv m n xs wc ro co j xs wc ro co 0
 col_start xs wc ro co i a b = (turn_start xs wc ro co a b, omega arith, below_none _)
 
-module _ {m n : ℕ} {xs wc ro co : List ℕ} (j : ℕ) {xs' wc' ro' co' : List ℕ} (i : ℕ) (I : ColInv m n xs wc ro co j xs' wc' ro' co' i) (hi : i < m) where
+module _ {m n : ℕ} {xs wc ro co : List ℕ} (j : ℕ) {xs' wc' ro' co' : List ℕ} (i : ℕ) (I : ColInv m n xs wc ro co j xs' wc' ro' co' i)
+    (hi : i < m) where
   pub col_skip : (at n xs' i j ≡ 2 → slice_index ro' i ≡ 0) → ColInv m n xs wc ro co j xs' wc' ro' co' (i + 1)
   col_skip f = (I.0, omega arith, below_more _ _ I.2 (rw I.0.same at f))
 
@@ -116,8 +123,9 @@ module _ {m n : ℕ} {xs wc ro : List ℕ} (co : List ℕ) (j : ℕ) (long : len
       record { found = λ e. true_false false e refl; none = λ _. (I.0.same, I.0.wants, s.0, s.1) }
 
 -- ---- row i takes a column at once
-pub row_now : {m n : ℕ} {xs wc ro co : List ℕ} (i f : ℕ) → length xs ≡ m * n → length wc ≡ n → i < m → 0 < slice_index ro i → Free n xs wc co i (Some f)
-    → (ro' : List ℕ) → RowVisited m n xs wc ro co (slice_set xs (i * n + f) 2) (slice_set wc f (slice_index wc f - 1)) ro' co i true
+pub row_now : {m n : ℕ} {xs wc ro co : List ℕ} (i f : ℕ) → length xs ≡ m * n → length wc ≡ n → i < m → 0 < slice_index ro i
+    → Free n xs wc co i (Some f) → (ro' : List ℕ)
+    → RowVisited m n xs wc ro co (slice_set xs (i * n + f) 2) (slice_set wc f (slice_index wc f - 1)) ro' co i true
 row_now {m} {n} {xs} {wc} {ro} {co} i f cells wide hi o F ro' =
     let p : i * n + f < length xs = rw cells (below hi F.0) in record {
       found = λ _. row_take i f hi F.0 p (rw wide F.0) F.1 F.2 o F.3;

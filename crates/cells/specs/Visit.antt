@@ -1,7 +1,8 @@
 -- The search: what a visit of a row, or of a column, has done where it found a column that wants a mark, and where it found none.
 -- xs holds the cells' states; ro and co hold, of each row and column, a number above 0 while it is open, and 0 once it was visited.
 -- wc holds the marks that each column still wants.
-use Rattle.std.specs.Prelude.{◌≡◌, ℕ, zero, suc, ◌+◌, ◌-◌, ◌*◌, ◌<◌, ◌≤◌, Bool, true, false, Option, Some, None, ◌⊎◌, List, length, ◌≢◌, refl}
+use Rattle.std.specs.Prelude.{◌≡◌, ℕ, zero, suc, ◌+◌, ◌-◌, ◌*◌, ◌<◌, ◌≤◌, Bool, true, false, Option, Some, None}
+use Rattle.std.specs.Prelude.{◌⊎◌, List, length, ◌≢◌, refl}
 use Rattle.std.specs.Prelude.{slice_index, slice_index_or, slice_set}
 use Rattle.std.proofs.Common.{sym, ap, ◌∙◌, inl, inr, ⊎_elim, arith, below_none, below_more, get_or-set_same, get_or-set_other}
 use Rattle.std.proofs.Math.Decide.{ℕ_discrete}
@@ -32,10 +33,12 @@ pub record Visited (m n : ℕ) (xs wc ro co ys wd ro' co' : List ℕ) (f g : ℕ
   pub found : r ≡ true → Moved m n xs wc ro co ys wd f g
   pub none : r ≡ false → (ys ≡ xs) × (wd ≡ wc) × Shut m n xs wc ro co ro' co' × Here
 
-abbrev pub RowVisited : ℕ → ℕ → List ℕ → List ℕ → List ℕ → List ℕ → List ℕ → List ℕ → List ℕ → List ℕ → ℕ → Bool → Type 0
+abbrev pub RowVisited : ℕ → ℕ → List ℕ → List ℕ → List ℕ → List ℕ → List ℕ → List ℕ → List ℕ → List ℕ → ℕ → Bool
+    → Type 0
 RowVisited m n xs wc ro co ys wd ro' co' i r = Visited m n xs wc ro co ys wd ro' co' (λ b. one b i) (λ x. 0) (slice_index ro' i ≡ 0) r
 
-abbrev pub ColVisited : ℕ → ℕ → List ℕ → List ℕ → List ℕ → List ℕ → List ℕ → List ℕ → List ℕ → List ℕ → ℕ → Bool → Type 0
+abbrev pub ColVisited : ℕ → ℕ → List ℕ → List ℕ → List ℕ → List ℕ → List ℕ → List ℕ → List ℕ → List ℕ → ℕ → Bool
+    → Type 0
 ColVisited m n xs wc ro co ys wd ro' co' j r = Visited m n xs wc ro co ys wd ro' co' (λ b. 0) (λ x. one x j) (slice_index co' j ≡ 0) r
 
 -- ---- none found
@@ -87,12 +90,14 @@ row_end {m} {n} {xs} {wc} {ro} {co} {ro'} {co'} i hi a h = (
   a.rows i (get_or-set_same ro i 0 0 hi),
 )
   where
-    go : (b x : ℕ) → b < m → x < n → 0 < slice_index ro b → slice_index ro' b ≡ 0 → at n xs b x ≡ 1 → Dec (b ≡ i) → slice_index co' x ≡ 0
+    go : (b x : ℕ) → b < m → x < n → 0 < slice_index ro b → slice_index ro' b ≡ 0 → at n xs b x ≡ 1 → Dec (b ≡ i)
+        → slice_index co' x ≡ 0
     go b x hb hx o z e (yes q) = h x hx (rw q at e)
     go b x hb hx o z e (no f) = a.row b x hb hx (rw (get_or-set_other ro i b 0 0 f) o) z e
 
 pub col_end : {m n : ℕ} {xs wc ro co ro' co' : List ℕ} (j : ℕ) → j < length co → Shut m n xs wc ro (slice_set co j 0) ro' co'
-    → ((b : ℕ) → b < m → at n xs b j ≡ 2 → slice_index ro' b ≡ 0) → slice_index wc j ≡ 0 → Shut m n xs wc ro co ro' co' × (slice_index co' j ≡ 0)
+    → ((b : ℕ) → b < m → at n xs b j ≡ 2 → slice_index ro' b ≡ 0) → slice_index wc j ≡ 0
+    → Shut m n xs wc ro co ro' co' × (slice_index co' j ≡ 0)
 col_end {m} {n} {xs} {wc} {ro} {co} {ro'} {co'} j hj a h w = (
   record {
     rows = a.rows;
@@ -105,7 +110,8 @@ col_end {m} {n} {xs} {wc} {ro} {co} {ro'} {co'} j hj a h w = (
   a.cols j (get_or-set_same co j 0 0 hj),
 )
   where
-    go : (b x : ℕ) → b < m → x < n → 0 < slice_index co x → slice_index co' x ≡ 0 → at n xs b x ≡ 2 → Dec (x ≡ j) → slice_index ro' b ≡ 0
+    go : (b x : ℕ) → b < m → x < n → 0 < slice_index co x → slice_index co' x ≡ 0 → at n xs b x ≡ 2 → Dec (x ≡ j)
+        → slice_index ro' b ≡ 0
     go b x hb hx o z e (yes q) = h b hb (rw q at e)
     go b x hb hx o z e (no f) = a.col b x hb hx (rw (get_or-set_other co j x 0 0 f) o) z e
 
@@ -118,8 +124,9 @@ open_other : (l : List ℕ) (b i : ℕ) → 0 < slice_index l i → slice_index 
 open_other l b i o e q = let s : slice_index_or l i 0 ≡ 0 = rw q at e in omega arith
 
 -- row i takes the column j, which wants a mark
-pub row_take : {m n : ℕ} {xs wc ro co : List ℕ} (i j : ℕ) → i < m → j < n → i * n + j < length xs → j < length wc → at n xs i j ≡ 1 → 0 < slice_index wc j
-    → 0 < slice_index ro i → 0 < slice_index co j → Moved m n xs wc ro co (slice_set xs (i * n + j) 2) (slice_set wc j (slice_index wc j - 1))
+pub row_take : {m n : ℕ} {xs wc ro co : List ℕ} (i j : ℕ) → i < m → j < n → i * n + j < length xs → j < length wc → at n xs i j ≡ 1
+    → 0 < slice_index wc j → 0 < slice_index ro i → 0 < slice_index co j
+    → Moved m n xs wc ro co (slice_set xs (i * n + j) 2) (slice_set wc j (slice_index wc j - 1))
     (λ b. one b i) (λ x. 0)
 row_take {m} {n} {xs} {wc} {ro} {co} i j hi hj hp hw e w o o' =
     let s = mark {m = m} {n = n} xs i j hi hj hp e in record {
@@ -143,9 +150,9 @@ row_take {m} {n} {xs} {wc} {ro} {co} i j hi hj hp hw e w o o' =
     less x (no f) = rw (get_or-set_other wc j x (slice_index wc j - 1) 0 f) (omega arith)
 
 -- row i takes the column j, whose visit found a mark to give up
-pub row_turn : {m n : ℕ} {xs wc ro co ro' co' ys wd : List ℕ} (i j : ℕ) → i < m → j < n → i * n + j < length ys → i < length ro → at n xs i j ≡ 1
-    → 0 < slice_index ro i → 0 < slice_index co' j → Shut m n xs wc (slice_set ro i 0) co ro' co' → Moved m n xs wc ro' co' ys wd (λ b. 0) (λ x. one x j)
-    → Moved m n xs wc ro co (slice_set ys (i * n + j) 2) wd (λ b. one b i) (λ x. 0)
+pub row_turn : {m n : ℕ} {xs wc ro co ro' co' ys wd : List ℕ} (i j : ℕ) → i < m → j < n → i * n + j < length ys → i < length ro
+    → at n xs i j ≡ 1 → 0 < slice_index ro i → 0 < slice_index co' j → Shut m n xs wc (slice_set ro i 0) co ro' co'
+    → Moved m n xs wc ro' co' ys wd (λ b. 0) (λ x. one x j) → Moved m n xs wc ro co (slice_set ys (i * n + j) 2) wd (λ b. one b i) (λ x. 0)
 row_turn {m} {n} {xs} {wc} {ro} {co} {ro'} {co'} {ys} {wd} i j hi hj hp hr e o o' a v =
     let e' : at n ys i j ≡ 1 = v.kept_row i j hj (a.rows i (get_or-set_same ro i 0 0 hr)) ∙ e in
     let s = mark {m = m} {n = n} ys i j hi hj hp e' in record {
@@ -158,9 +165,9 @@ row_turn {m} {n} {xs} {wc} {ro} {co} {ro'} {co'} {ys} {wd} i j hi hj hp hr e o o
     }
 
 -- column j gives up the mark of the row b, whose visit found another
-pub col_turn : {m n : ℕ} {xs wc ro co ro' co' ys wd : List ℕ} (i j : ℕ) → i < m → j < n → i * n + j < length ys → j < length co → at n xs i j ≡ 2
-    → 0 < slice_index co j → 0 < slice_index ro' i → Shut m n xs wc ro (slice_set co j 0) ro' co' → Moved m n xs wc ro' co' ys wd (λ b. one b i) (λ x. 0)
-    → Moved m n xs wc ro co (slice_set ys (i * n + j) 1) wd (λ b. 0) (λ x. one x j)
+pub col_turn : {m n : ℕ} {xs wc ro co ro' co' ys wd : List ℕ} (i j : ℕ) → i < m → j < n → i * n + j < length ys → j < length co
+    → at n xs i j ≡ 2 → 0 < slice_index co j → 0 < slice_index ro' i → Shut m n xs wc ro (slice_set co j 0) ro' co'
+    → Moved m n xs wc ro' co' ys wd (λ b. one b i) (λ x. 0) → Moved m n xs wc ro co (slice_set ys (i * n + j) 1) wd (λ b. 0) (λ x. one x j)
 col_turn {m} {n} {xs} {wc} {ro} {co} {ro'} {co'} {ys} {wd} i j hi hj hp hc e o o' a v =
     let e' : at n ys i j ≡ 2 = v.kept_col i j hj (a.cols j (get_or-set_same co j 0 0 hc)) ∙ e in
     let s = unmark {m = m} {n = n} ys i j hi hj hp e' in record {
@@ -207,6 +214,7 @@ module _ {n : ℕ} {xs wc co : List ℕ} {i : ℕ} {best : Option ℕ} {most j :
     all = below_more _ _ (λ x k a b. omega (arith, I.all x k a b)) (λ a b. omega arith);
   }
 
-pub free_end : {n : ℕ} {xs wc co : List ℕ} {i : ℕ} (best : Option ℕ) {most j : ℕ} → FreeInv n xs wc co i best most j → n ≤ j → Free n xs wc co i best
+pub free_end : {n : ℕ} {xs wc co : List ℕ} {i : ℕ} (best : Option ℕ) {most j : ℕ} → FreeInv n xs wc co i best most j → n ≤ j
+    → Free n xs wc co i best
 free_end None I l = λ x h a b. omega (arith, I.found, I.all x (omega arith) a b)
 free_end (Some b) I l = I.found
