@@ -3,7 +3,7 @@
 use Rattle.std.specs.Prelude.{◌≡◌, ℕ, ◌+◌, ◌-◌, ◌*◌, ◌<◌, ◌≤◌, ◌≢◌, Bool, true, false, List, length, slice_index}
 use Rattle.std.specs.Prelude.{slice_index_or, slice_set, refl}
 use Rattle.std.proofs.Common.{sym, ap, ◌∙◌, arith, below_none, below_more, length-set, get_or-set_same, get_or-set_other}
-use Rattle.std.proofs.lemmas.List.{set-get_or, set-set}
+use Rattle.std.proofs.lemmas.List.{set-set}
 use Rattle.std.proofs.Math.Nat.{le_of_mul-le-mul_left}
 use Rattle.ints.specs.NatSums.{Σ, Σ_ext, Σ_scale, Σ_swap, Σ_same}
 use Rattle.cells.specs.Cut.{cut_rows}
@@ -100,30 +100,15 @@ pub record RowPlaced (m n : ℕ) (xs wr wc xs' wr' wc' : List ℕ) (i : ℕ) : T
   pub other : (b : ℕ) → (b ≢ i) → slice_index wr' b ≡ slice_index wr b
   pub none : slice_index wr' i ≡ 0
 
-module _ {m n : ℕ} {xs wr wc : List ℕ} (i : ℕ) (hi : i < length wr) where
-  pub placing_start : Placing m n xs wr wc xs wr wc i 0
-  placing_start =
-      let e : slice_index wr i - 0 ≡ slice_index wr i = omega arith in
-      record { same = refl; kept = rw (e, set-get_or wr i 0) (kept_none xs wr wc) }
+module _ {m n : ℕ} {xs wr wc xs' wr' wc' : List ℕ} (i : ℕ) (hi : i < length wr) {k : ℕ} (P : Placing m n xs wr wc xs' wr' wc' i k) where
+  pub still_lacks : k < slice_index wr i → 0 < slice_index (lacking wr i k) i
+  still_lacks l = rw (get_or-set_same wr i (slice_index wr i - k) 0 hi) (omega arith)
 
-  module _ {xs' wr' wc' : List ℕ} {k : ℕ} (P : Placing m n xs wr wc xs' wr' wc' i k) where
-    pub still_lacks : k < slice_index wr i → 0 < slice_index (lacking wr i k) i
-    still_lacks l = rw (get_or-set_same wr i (slice_index wr i - k) 0 hi) (omega arith)
-
-    pub placing_on : {ys wr'' wd : List ℕ} → wr'' ≡ wr' → Kept m n xs wr wc ys (lacking (lacking wr i k) i 1) wd
-        → Placing m n xs wr wc ys wr'' wd i (k + 1)
-    placing_on e K =
-        let o : slice_index wr i - k - 1 ≡ slice_index wr i - (k + 1) = omega arith in
-        record { same = e ∙ P.same; kept = rw (set-set, get_or-set_same wr i (slice_index wr i - k) 0 hi, o) at K }
-
-    pub placing_end : slice_index wr i ≤ k → RowPlaced m n xs wr wc xs' (slice_set wr' i 0) wc' i
-    placing_end l =
-        let e : slice_index wr i - k ≡ 0 = omega arith in
-        record {
-          kept = rw P.same (rw e at P.kept);
-          other = λ b f. rw P.same (get_or-set_other wr i b 0 0 f);
-          none = rw P.same (get_or-set_same wr i 0 0 hi);
-        }
+  pub placing_on : {ys wr'' wd : List ℕ} → wr'' ≡ wr' → Kept m n xs wr wc ys (lacking (lacking wr i k) i 1) wd
+      → Placing m n xs wr wc ys wr'' wd i (k + 1)
+  placing_on e K =
+      let o : slice_index wr i - k - 1 ≡ slice_index wr i - (k + 1) = omega arith in
+      record { same = e ∙ P.same; kept = rw (set-set, get_or-set_same wr i (slice_index wr i - k) 0 hi, o) at K }
 
 -- ---- the rows below i have their marks
 pub record Going (m n : ℕ) (xs wr wc xs' wr' wc' : List ℕ) (i : ℕ) : Type 0 where
@@ -147,14 +132,6 @@ module _ {m n : ℕ} {xs wr wc xs' wr' wc' : List ℕ} {i : ℕ} (g : Going m n 
     done = λ b h. rw (get_or-set_other wr' i b (slice_index wr' i - 1) 0 (λ q. absurd (omega arith))) (g.done b h);
   }
 
-  -- row i has all its marks
-  pub going_row : i < m → {ys wr'' wd : List ℕ} → RowPlaced m n xs' wr' wc' ys wr'' wd i → Going m n xs wr wc ys wr'' wd (i + 1)
-  going_row h p = record {
-    here = omega arith;
-    kept = kept_then g.kept p.kept;
-    done = below_more _ _ (λ b l. p.other b (λ q. absurd (omega arith)) ∙ g.done b l) p.none;
-  }
-
   pub going_end : Feasible m n xs wr wc → m ≤ i → Placed m n xs wr wc xs'
   going_end F h =
       let z = rest (still g.kept F) (λ b l. g.done b (omega arith)) in
@@ -163,13 +140,3 @@ module _ {m n : ℕ} {xs wr wc xs' wr' wc' : List ℕ} {i : ℕ} (g : Going m n 
         cols = λ x l. omega (arith, g.kept.cols x l, z x l);
         kind = g.kept.kind;
       }
-
--- what the driver was given holds of what is left
-pub still_wanted : {m n : ℕ} {xs wr wc xs' wr' wc' : List ℕ} → Wanted m n xs wr wc → Kept m n xs wr wc xs' wr' wc' → Wanted m n xs' wr' wc'
-still_wanted W K = record {
-  cells = K.cells ∙ W.cells;
-  tall = K.tall ∙ W.tall;
-  wide = K.wide ∙ W.wide;
-  small = λ p. K.kind.small p (W.small p);
-  feasible = still K W.feasible;
-}

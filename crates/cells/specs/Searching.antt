@@ -85,8 +85,7 @@ VisitsColumn s s' j r = Still s s' × ColVisited (height s) (width s) s.table.ma
     s'.table.marks.now s'.table.wants.now (rows s') (columns s') j r
 
 abbrev pub PlacesRow : Search → Search → ℕ → Type 0
-PlacesRow s s' i = (height s' ≡ height s) × (width s' ≡ width s)
-    × RowPlaced (height s) (width s) s.table.marks.now s.table.lacks.now s.table.wants.now
+PlacesRow s s' i = RowPlaced (height s) (width s) s.table.marks.now s.table.lacks.now s.table.wants.now
     s'.table.marks.now s'.table.lacks.now s'.table.wants.now i
 
 abbrev pub Places : Search → Search → Type 0

@@ -1,6 +1,6 @@
 // Marks dealt row by row to the columns that want most. Where no cell is whole this places them all; what it cannot place is left to
 // the search, so that nothing here promises more than that every total is kept.
-ghost use Rattle.std.specs.Prelude.{◌≡◌, ◌+◌, ◌*◌, ◌<◌, ◌≤◌, length, IfSome};
+ghost use Rattle.std.specs.Prelude.{◌<◌, length, IfSome};
 ghost use Rattle.cells.specs.Marking.{KeepsTotals};
 
 use super::marks::{BROKEN, MARKED, Marking};

@@ -1,5 +1,5 @@
 // The search for marks: depth first, over rows and columns in turn, which turns the cells of the way it found on its way back out.
-ghost use Rattle.std.specs.Prelude.{◌≡◌, ◌+◌, ◌*◌, ◌<◌, ◌≤◌, length, slice_index, slice_index_or, IsTrue, false};
+ghost use Rattle.std.specs.Prelude.{◌≡◌, ◌<◌, length, slice_index, slice_index_or, IsTrue, false};
 
 use super::marks::{BROKEN, MARKED, Marking};
 

@@ -1,11 +1,8 @@
 -- The visit begins with every row and every column open, so it finds a mark.
-use Rattle.std.proofs.Common.{◌≡◌, ◌<◌, ◌∙◌, length, replicate, true, refl, arith, rules}
-use Rattle.cells.specs.Place.{kept_more, placing_start, placing_on, placing_end, still_lacks}
+use Rattle.std.proofs.Common.{◌≡◌, ◌<◌, ◌∙◌, length, replicate, true, arith, rules}
+use Rattle.cells.specs.Place.{kept_more, placing_on, still_lacks}
 use Rattle.cells.specs.Searching.{height, width, opened_all}
 use Rattle.cells.proofs.search.Search.place_row.Goals as goal
-
-pub loop-init : goal.loop-init
-loop-init c = (refl, refl, placing_start c.args.i (omega (arith, c.requires.1, c.requires.0.tall)))
 
 pub loop-preserved : goal.loop-preserved
 loop-preserved c =
@@ -27,8 +24,3 @@ loop-preserved c =
           (rw (c.fill.auto.self ∙ I.0, c.fill-in-loop.auto.self ∙ I.1) at v.ensures.1)
           k.cells k.wide),
     )
-
-pub returns : goal.returns
-returns c =
-    let I = c.loop.invariant in
-    (I.0, I.1, placing_end c.args.i (omega (arith, c.requires.1, c.requires.0.tall)) I.2 (omega (arith, c.loop-test.false)))
