@@ -41,6 +41,7 @@ impl Marking<'_> {
         ensures { KeepsTotals self.old self.new }
     {
         let n = self.wants.len();
+        // by index: a turn reads and writes all three slices
         for j in 0..n {
             if self.wants[j] >= least && self.marks[i * n + j] == BROKEN && self.lacks[i] > 0 {
                 self.marks[i * n + j] = MARKED;

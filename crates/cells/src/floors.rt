@@ -47,7 +47,7 @@ fn add(left: &mut u64, rest: u64, w: u64) -> u64
 impl Marking<'_> {
     // The floors of row i, whose credit is v, and which of its cells are broken. The remainders are added to the columns' sums, `wants`
     // times w and `lefts`; those of the row are what it lacks, in whole multiples of w. A column's sum is one number in two slices, since
-    // after the floors `wants` goes on alone.
+    // after the floors `wants` goes on alone. What it takes is what `floors` is lent, where alone it is called.
     fn floor_row(
         &mut self,
         i: usize,

@@ -14,6 +14,7 @@ ghost use Rattle.cells.specs.Finish.{Fillable, PostAsks, Posted};
 
 use marks::{MARKED, Marking};
 use rules::{PAYEES, USERS};
+use search::Search;
 
 // The cent that a cell's mark adds to its floor.
 fn cent(mark: u64) -> i64
@@ -23,7 +24,7 @@ fn cent(mark: u64) -> i64
     i64::from(mark == MARKED)
 }
 
-// Adds the marks to the floors.
+// Adds the marks to the floors. Not by `ints::add_by`: `cent` asks that it is a mark.
 fn post(cells: &mut [i64], table: &Marking)
     requires { PostAsks cells.old table.now.marks.now }
     ensures { Posted cells.old table.now.marks.now cells.new (length cells.old) }
@@ -60,7 +61,7 @@ pub fn fill(vc: &[i64], vd: &[i64], cells: &mut [i64], work: &mut [u64])
     };
     table.floors(vc, debits, w, cells, &mut lefts[..n]);
     table.deal(&mut counts[..m + 1]);
-    let mut search = search::Search {
+    let mut search = Search {
         open_rows: &mut rows[..m],
         open_columns: &mut columns[..n],
         table,

@@ -12,7 +12,7 @@ pub(crate) const MARKED: u64 = 2;
 // A table while its marks are placed, in lent slices.
 #[derive(Drop)]
 pub(crate) struct Marking<'a> {
-    // what each cell is, row by row
+    // what each cell is, row by row: one flat slice, as the caller lends it, cell j of row i at i * columns + j
     pub marks: &'a mut [u64],
     // how many marks each row lacks
     pub lacks: &'a mut [u64],

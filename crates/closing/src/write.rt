@@ -26,7 +26,7 @@ pub fn write(
 {
     let n = month.users.len();
     let m = month.agents.len() + 1;
-    let mut vc = [0i64; PAYEES];
+    let mut vc = [0; PAYEES];
     let payees = Payees {
         debits: bills.total,
         last: ledger.month,

@@ -3,5 +3,4 @@
 pub mod Euclid
 pub mod Months
 pub mod Amounts
-pub mod Totals
 pub mod Tested

@@ -32,10 +32,7 @@ fn cycle(month: i64) -> i64
     ensures { result ≡ cycle_of month }
 {
     let year = month / 100;
-    if month % 100 < 7 {
-        return year - 1;
-    }
-    year
+    if month % 100 < 7 { year - 1 } else { year }
 }
 
 // The cycle month that adjustments are settled to when the month closes, `last` being the last closed month, 0 for none, as the

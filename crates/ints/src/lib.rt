@@ -1,4 +1,4 @@
-// The toolkit on whole numbers: its laws are in specs/, and its code is the one test that every limit goes by and loops that add over a slice.
+// The toolkit on whole numbers: its laws are in specs/, and its code is the test of a limit on both sides and loops that add over a slice.
 #![tactic(auto)]
 
 ghost use Rattle.std.specs.Prelude.{◌≡◌, ℤ, map};

@@ -3,7 +3,8 @@ use crate::cursor::Cursor;
 use records::Line;
 use rules::MonthLine;
 
-// What an accepted reading answers: the month line, how many lines there are of each kind, and the position after the file.
+// What an accepted reading answers: the month line, how many lines there are of each kind, and the position after the file. The lines
+// themselves stand in the caller's slices.
 #[derive(Clone, Copy)]
 pub struct Header {
     pub line: MonthLine,
@@ -19,7 +20,7 @@ impl Cursor<'_> {
     ghost use Rattle.monthfile.specs.Cursor.{rest};
     ghost use Rattle.monthfile.specs.At.{GotAt, Filled};
 
-    // The number of the digits here, at most 18.
+    // The number of the digits here, at most 18. No `parse`: the bytes need be no text, and the digits end where they end.
     fn read_digits(&mut self) -> u64
         ensures read { GotAt (read_digits 18 0 (rest self.old)) result self.new }
         ensures small { result < 10 ^ 18 }

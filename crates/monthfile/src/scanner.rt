@@ -8,9 +8,9 @@ use crate::cursor::Cursor;
 use crate::names::{AGENTS, MONTH, POINTS, USERS};
 use format::Fault;
 
-// Each step is inlined: with text and place in registers the file check is as fast as one written by hand.
+// What a value or a line takes is inlined: with text and place in registers the file check keeps pace with one written by hand.
 
-// How many lines the slices lent for them take.
+// How many lines the slices lent for them take. Of usize, since a scan counts them down; what 1 tests of a month are `Counts`.
 #[derive(Clone, Copy)]
 pub(crate) struct Room {
     pub agents: usize,

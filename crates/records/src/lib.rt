@@ -7,7 +7,7 @@ ghost use Rattle.records.specs.Columns.{month_line_of};
 
 use rules::{Agent, MonthLine, Point, User};
 
-// A line of N values.
+// A line of N values. A trait of ours and no `From<[i64; N]>`, which only the crate of the structs could give them.
 pub trait Line<const N: usize>: Copy {
     ghost of: { List ℤ → Self };
 

@@ -37,7 +37,7 @@ pub fn long_enough(lent: Lent, entries: u64, needed: u64) -> Result<(), Refusal>
     Ok(())
 }
 
-// 1 at an opening: a count outside 1 to 512 users, 1 to 256 agents.
+// 1, of counts alone: one outside 1 to 512 users, 1 to 256 agents.
 fn bad_opening_counts(users: u64, agents: u64) -> bool
     ensures { result ≡ (bad_users users || bad_agents agents) }
 {

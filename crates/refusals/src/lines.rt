@@ -74,6 +74,7 @@ fn each_line<T, F: Fn(u64, &T) -> Result<(), Refusal>>(lines: &[T], test: F) -> 
     Ok(())
 }
 
+// A line's test, as `each_line` takes it; of the three each has its own line, test and refusal.
 fn credit_verdict(k: u64, credit: &i64) -> Result<(), Refusal>
     ensures { verdict_of result ≡ credit_test k credit.now }
 {
@@ -114,6 +115,7 @@ pub fn lines_before_points(line: MonthLine, agents: &[Agent], users: &[User]) ->
     ensures { verdict_of result ≡ lines_before_points line agents.now users.now }
 {
     if outside(0, AMOUNT, line.ons) {
+        // the month line has no position
         return Err(Refusal::BadValue(0));
     }
     each_line(agents, agent_verdict)?;

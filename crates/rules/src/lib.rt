@@ -17,7 +17,7 @@ pub const PAYEES: usize = AGENTS + 1;
 pub const POINTS: usize = 1024;
 
 // The month line (paper 01, "A month's lines"): yyyymm, and RMONS.
-#[derive(Clone, Copy)]
+#[derive(Clone, Copy, Debug, PartialEq, Eq)]
 pub struct MonthLine {
     pub month: i64,
     pub ons: i64,
@@ -25,7 +25,7 @@ pub struct MonthLine {
 
 // An agent's line: its position from 1, base payments, variable parcel, overload addition, overload refund, yearly adjustment, revenue
 // correction.
-#[derive(Clone, Copy, Default)]
+#[derive(Clone, Copy, Debug, Default, PartialEq, Eq)]
 pub struct Agent {
     pub number: i64,
     pub pb: i64,
@@ -37,7 +37,7 @@ pub struct Agent {
 }
 
 // A user's line: its position from 1, the number of its kind, charge correction, direct charge (paper 02, Q-1).
-#[derive(Clone, Copy, Default)]
+#[derive(Clone, Copy, Debug, Default, PartialEq, Eq)]
 pub struct User {
     pub number: i64,
     pub kind: i64,
@@ -46,7 +46,7 @@ pub struct User {
 }
 
 // A connection point's line: its user, then peak and off-peak tariff, discount, contracted and verified power.
-#[derive(Clone, Copy, Default)]
+#[derive(Clone, Copy, Debug, Default, PartialEq, Eq)]
 pub struct Point {
     pub user: i64,
     pub tp: i64,
@@ -69,7 +69,7 @@ pub struct MonthLines<'a> {
 }
 
 // The lengths of the slices that a closing is lent.
-#[derive(Clone, Copy)]
+#[derive(Clone, Copy, Debug, PartialEq, Eq)]
 pub struct Lengths {
     pub held: u64,
     pub cells: u64,
@@ -78,7 +78,7 @@ pub struct Lengths {
 
 // The ledger (paper 01, "The ledger"): the counts of an accepted opening and the last closed month, 0 for none. The default is what a
 // refused opening answers.
-#[derive(Clone, Copy, Default)]
+#[derive(Clone, Copy, Debug, Default, PartialEq, Eq)]
 pub struct Ledger {
     pub users: u64,
     pub agents: u64,

@@ -107,7 +107,7 @@ impl Error for Refusal {}
 
 // The answer of opening or closing, with the ledger that holds from then on. Both are there in either case: the paper has a refused opening
 // answer a ledger of zeros, and a refused closing leave the one that it was handed.
-#[derive(Clone, Copy)]
+#[derive(Clone, Copy, Debug, PartialEq, Eq)]
 pub struct Outcome {
     pub answer: Result<(), Refusal>,
     pub ledger: Ledger,

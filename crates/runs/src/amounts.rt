@@ -3,7 +3,7 @@ ghost use Rattle.statement.specs.Statement.{States};
 ghost use Rattle.rules.specs.Lines.{lines_of};
 
 use crate::books::Books;
-use crate::months::{AGENTS, Month, POINTS, USERS};
+use crate::months::{Month, PAYEES, POINTS, USERS};
 use crate::payees::{Payee, each_cell};
 use crate::report::{Report, Stop};
 use rules::{MonthLines, Refusal};
@@ -20,7 +20,12 @@ impl Report for Amounts {
     fn month<R: io::Print>(rt: &R, books: &mut Books, month: Month<'_>) -> Result<(), Stop> {
         let mut rows = Rows::new();
         let balance = rows.state_and_close(books, month.lines)?;
-        Ok(Printer { rt, month }.amounts(&rows, balance, books)?)
+        let printer = Printer {
+            rt,
+            month,
+            rows: &rows,
+        };
+        Ok(printer.amounts(balance, books)?)
     }
 }
 
@@ -31,8 +36,6 @@ struct Rows {
     users: [UserRow; USERS],
     payees: [PayeeRow; PAYEES],
 }
-
-const PAYEES: usize = AGENTS + 1;
 
 impl Rows {
     fn new() -> Rows {
@@ -99,6 +102,7 @@ impl fmt::Display for Of {
 struct Printer<'a, R> {
     rt: &'a R,
     month: Month<'a>,
+    rows: &'a Rows,
 }
 
 impl<R: io::Print> Printer<'_, R> {
@@ -114,17 +118,17 @@ impl<R: io::Print> Printer<'_, R> {
         Ok(())
     }
 
-    fn points(&self, rows: &Rows) -> io::Result<()> {
+    fn points(&self) -> io::Result<()> {
         let points = self.month.lines.points;
-        for (number, (point, r)) in (1..=points.len()).zip(points.iter().zip(&rows.points)) {
+        for (number, (point, r)) in (1..=points.len()).zip(points.iter().zip(&self.rows.points)) {
             let amounts = [("use", r.use_charge), ("overrun", r.overrun)];
             self.rows(Of::Point(point.user, number), &amounts)?;
         }
         Ok(())
     }
 
-    fn users(&self, rows: &Rows) -> io::Result<()> {
-        for (user, r) in (1..=self.month.lines.users.len()).zip(&rows.users) {
+    fn users(&self) -> io::Result<()> {
+        for (user, r) in (1..=self.month.lines.users.len()).zip(&self.rows.users) {
             let amounts = [
                 ("EUST", r.eust),
                 ("overruns", r.overruns),
@@ -142,8 +146,8 @@ impl<R: io::Print> Printer<'_, R> {
         Ok(())
     }
 
-    fn agents(&self, rows: &Rows) -> io::Result<()> {
-        for (agent, r) in (1..=self.month.lines.agents.len()).zip(&rows.payees) {
+    fn agents(&self) -> io::Result<()> {
+        for (agent, r) in (1..=self.month.lines.agents.len()).zip(&self.rows.payees) {
             let amounts = [
                 ("VMST", r.vmst),
                 ("VMPA", r.vmpa),
@@ -157,29 +161,23 @@ impl<R: io::Print> Printer<'_, R> {
     }
 
     // ONS's shared part, and its credit with every direct charge.
-    fn ons(&self, rows: &Rows) -> io::Result<()> {
-        let r = rows.payees[self.month.lines.agents.len()];
+    fn ons(&self) -> io::Result<()> {
+        let r = self.rows.payees[self.month.lines.agents.len()];
         let amounts = [("ons", r.shared), ("VC", r.vc)];
         self.rows(Of::Payee(Payee::Ons), &amounts)
     }
 
     fn cells(&self, books: &Books) -> io::Result<()> {
-        let lines = self.month.lines;
-        each_cell(
-            lines.agents.len(),
-            lines.users.len(),
-            &books.cells,
-            |payee: Payee, user: usize, cents: i64| {
-                self.row("cell", Of::Cell(payee, user), cents)
-            },
-        )
+        each_cell(books, self.month, |payee: Payee, user: usize, cents: i64| {
+            self.row("cell", Of::Cell(payee, user), cents)
+        })
     }
 
-    fn amounts(&self, rows: &Rows, balance: i64, books: &Books) -> io::Result<()> {
-        self.points(rows)?;
-        self.users(rows)?;
-        self.agents(rows)?;
-        self.ons(rows)?;
+    fn amounts(&self, balance: i64, books: &Books) -> io::Result<()> {
+        self.points()?;
+        self.users()?;
+        self.agents()?;
+        self.ons()?;
         self.row("SMSE", Of::Month, balance)?;
         self.cells(books)
     }

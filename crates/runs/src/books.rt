@@ -2,13 +2,13 @@
 ghost use Rattle.rules.specs.Calls.{Opens, Closes};
 ghost use Rattle.rules.specs.Lines.{lines_of};
 
-use crate::months::{AGENTS, USERS};
+use crate::months::{PAYEES, USERS};
 use rules::{Ledger, MonthLines, Refusal};
 
 // Paper 01's needs: a cell for each payee and user, and of work twice that and 4 for each payee and user.
-const CELLS: usize = (AGENTS + 1) * USERS;
+const CELLS: usize = PAYEES * USERS;
 
-const WORK: usize = 2 * CELLS + 4 * (AGENTS + 1 + USERS);
+const WORK: usize = 2 * CELLS + 4 * (PAYEES + USERS);
 
 // Arrays, since nothing is allocated.
 #[derive(Drop)]

@@ -8,11 +8,10 @@ use std::io;
 
 // A refusal is printed in place of what was asked for.
 fn or_refusal<R: io::Print>(rt: &R, done: Result<(), Stop>) -> io::Result<()> {
-    match done {
-        Ok(()) => Ok(()),
-        Err(Stop::Refused(refusal)) => rt.println(refusal),
-        Err(Stop::Failed(error)) => Err(error),
-    }
+    done.or_else(|stop| match stop {
+        Stop::Refused(refusal) => rt.println(refusal),
+        Stop::Failed(error) => Err(error),
+    })
 }
 
 // Each file begins further on than the one before, so that the run ends.

@@ -1,6 +1,6 @@
 // The programs over month files (paper 01, "The month file"). Each reads standard input whole and closes file after file; they differ in
 // what they print of a month. A line is written by one `println`, which puts it together first: the system alone can cut one. (std's writes
-// at 1,024 bytes; of ours the longest has five numbers of at most 20 bytes.)
+// at 1,024 bytes; of ours the longest has four numbers of at most 20 bytes.)
 //   input    standard input, up to its limit
 //   files    file after file
 //   months   a month's lines, and the room that they are read into
@@ -66,6 +66,7 @@ fn print_report<P: Report, R: io::Input + io::Print>(rt: &R) -> Result<(), Failu
     let input = input::read_all(rt, &mut buffer).map_err(Failure::Reading)?;
     let printed = match input {
         Some(text) => files::print_months::<P, R>(rt, text),
+        // which line is too many is not known
         None => rt.println(Refusal::TooManyLines(0)),
     };
     printed.map_err(Failure::Writing)

@@ -10,6 +10,8 @@ use rules::{Agent, MonthLines, Point, Refusal, User};
 // What the programs have room for.
 pub(crate) const AGENTS: usize = 16;
 
+pub(crate) const PAYEES: usize = AGENTS + 1;
+
 pub(crate) const USERS: usize = 64;
 
 pub(crate) const POINTS: usize = 256;

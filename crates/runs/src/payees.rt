@@ -1,6 +1,6 @@
 // Who receives, and a month's cells.
-ghost use Rattle.std.specs.Prelude.{◌≤◌, ◌+◌, ◌*◌, length};
-
+use crate::books::Books;
+use crate::months::Month;
 use std::{fmt, io, iter};
 
 // An agent by its number, ONS, or the user itself, which holds a credit.
@@ -21,20 +21,20 @@ impl fmt::Display for Payee {
     }
 }
 
-// Prints each cell of a table with its payee and its user: the agents' rows in order, then ONS's. There is a cell for each, so that `zip`
+// Prints each cell of a month with its payee and its user: the agents' rows in order, then ONS's. There is a cell for each, so that `zip`
 // leaves none out.
 pub(crate) fn each_cell<F: Fn(Payee, usize, i64) -> io::Result<()>>(
-    agents: usize,
-    users: usize,
-    cells: &[i64],
+    books: &Books,
+    month: Month<'_>,
     print: F,
 ) -> io::Result<()>
-    requires callable { F.IsAlwaysCallable print }
-    requires table { (agents + 1) * users ≤ length cells.now }
+    requires { F.IsAlwaysCallable print }
 {
+    let agents = month.lines.agents.len();
+    let users = month.lines.users.len();
     let payees = (1..=agents).map(Payee::Agent).chain(iter::once(Payee::Ons));
     let places = payees.flat_map(|payee| (1..=users).map(move |user| (payee, user)));
-    for ((payee, user), cents) in places.zip(cells) {
+    for ((payee, user), cents) in places.zip(&books.cells) {
         print(payee, user, *cents)?;
     }
     Ok(())

@@ -20,13 +20,11 @@ impl Report for Table {
 
 fn print_table<R: io::Print>(rt: &R, books: &Books, month: Month<'_>) -> io::Result<()> {
     let yyyymm = month.lines.line.month;
-    let agents = month.lines.agents.len();
-    let users = month.lines.users.len();
     let amount = |payee: Payee, user: usize, cents: i64| {
         println!(rt; "{yyyymm},{payee},{user},{cents}")
     };
-    each_cell(agents, users, &books.cells, &amount)?;
-    for (user, cents) in (1..=users).zip(&books.held) {
+    each_cell(books, month, &amount)?;
+    for (user, cents) in (1..=month.lines.users.len()).zip(&books.held) {
         amount(Payee::Held, user, *cents)?;
     }
     Ok(())

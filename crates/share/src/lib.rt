@@ -16,6 +16,9 @@ use wide::Divided;
 // 10^17, the limit of amounts and of weight sums.
 const LIMIT: i64 = 100_000_000_000_000_000;
 
+// What C sees of a refusal is this less its place.
+const REFUSED: i64 = -1_000_000_000_000_000_000;
+
 // Why there is no part: which argument is out of its limits.
 #[derive(Clone, Copy, Debug, PartialEq, Eq)]
 pub enum BadShare {
@@ -89,8 +92,8 @@ pub fn seen_by_c(answer: Result<i64, BadShare>) -> i64
 {
     match answer {
         Ok(x) => x,
-        Err(BadShare::Amount) => -1_000_000_000_000_000_001,
-        Err(BadShare::Total) => -1_000_000_000_000_000_002,
-        Err(BadShare::Sums) => -1_000_000_000_000_000_003,
+        Err(BadShare::Amount) => REFUSED - 1,
+        Err(BadShare::Total) => REFUSED - 2,
+        Err(BadShare::Sums) => REFUSED - 3,
     }
 }

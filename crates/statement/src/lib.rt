@@ -22,14 +22,14 @@ use refusals::counts::{Counts, counts_verdict, long_enough};
 use rules::{Ledger, Lent, MonthLines, Refusal, Standing};
 
 // A point: use charge and overrun.
-#[derive(Clone, Copy, Default)]
+#[derive(Clone, Copy, Debug, Default, PartialEq, Eq)]
 pub struct PointRow {
     pub use_charge: i64,
     pub overrun: i64,
 }
 
 // A user: EUST, its overruns, ret, VME, CPV, the credit held before, n, VD, the credit held after, direct charge.
-#[derive(Clone, Copy, Default)]
+#[derive(Clone, Copy, Debug, Default, PartialEq, Eq)]
 pub struct UserRow {
     pub eust: i64,
     pub overruns: i64,
@@ -44,7 +44,7 @@ pub struct UserRow {
 }
 
 // A payee: VMST, VMPA, VMANT, ret, VC, and the shared part of VC.
-#[derive(Clone, Copy, Default)]
+#[derive(Clone, Copy, Debug, Default, PartialEq, Eq)]
 pub struct PayeeRow {
     pub vmst: i64,
     pub vmpa: i64,
@@ -57,10 +57,10 @@ pub struct PayeeRow {
 // How many entries the slices have that a statement is lent: held credits, and the rows of points, users and payees.
 #[derive(Clone, Copy)]
 struct RowRooms {
-    pub held: u64,
-    pub points: u64,
-    pub users: u64,
-    pub payees: u64,
+    held: u64,
+    points: u64,
+    users: u64,
+    payees: u64,
 }
 
 // 2: the first slice that is too short, for a ledger whose counts passed 1; month and credits play no part.

@@ -26,6 +26,7 @@ pub(crate) fn rows(users: &[User], points: &[Point], out: &mut [PointRow])
     requires { InRange points.now × (length out.old ≡ length points.now) }
     ensures { out.new ≡ map (point_row users.now) points.now }
 {
+    // by index: of what a zipped `iter_mut` writes a proof learns nothing
     for (i, p) in points.iter().enumerate() {
         out[i] = row(users, *p);
     }

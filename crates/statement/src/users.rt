@@ -27,6 +27,7 @@ fn rows(users: &[User], columns: Columns, out: &mut [UserRow])
     requires { ColumnsFit users.now columns out.old }
     ensures { out.new ≡ user_rows_by users.now columns.entry }
 {
+    // by index: of what a zipped `iter_mut` writes a proof learns nothing
     for (i, user) in users.iter().enumerate() {
         let due = charges::month::net(columns.vme[i], columns.cpv[i], columns.held[i]);
         out[i] = UserRow {

@@ -1,4 +1,4 @@
-// The product of two words, from 32-bit halves.
+// The product of two words, from 32-bit halves: the form that paper 01 names ("Where to use each form"), in place of 128-bit integers.
 ghost use Rattle.std.specs.Prelude.{◌≡◌, ◌+◌, ◌*◌, ◌/◌, ◌%◌, ◌^◌};
 ghost use Rattle.wide.specs.Exact.{words};
 
@@ -16,13 +16,13 @@ fn high_half(x: u64) -> u64
     x >> 32
 }
 
-// x + y, the carry as the high word.
+// x + y, the carry as the high word. A wrapping sum and a comparison, as paper 01 names them: one that wrapped is below each of its terms.
 fn add(x: u64, y: u64) -> Words
     ensures { result ≡ words (x + y) }
 {
-    let (low, carried) = x.overflowing_add(y);
+    let low = x.wrapping_add(y);
     Words {
-        high: u64::from(carried),
+        high: u64::from(low < x),
         low,
     }
 }

@@ -1,5 +1,6 @@
 -- The rows of the points, of the users and of the payees, one after the other.
 use Rattle.std.proofs.Common.{◌∙◌, rules, to_z-of_z, w64, SFits}
+use Rattle.credits.proofs.Amounts.{pv_summable}
 use Rattle.statement.specs.Statement.{point_rows}
 use Rattle.statement.proofs.Writing.{in_range, month, payable, direct_summable, direct_within}
 use Rattle.statement.proofs.write.Goals as goal
@@ -8,7 +9,7 @@ pub rows-requires : goal.rows-requires
 rows-requires c = let w = c.requires.2 in (in_range w, w.point_count)
 
 pub pv_total-pv-requires : goal.pv_total-pv-requires
-pv_total-pv-requires c = (payable c.requires.2).lines
+pv_total-pv-requires c = pv_summable (payable c.requires.2).lines
 
 pub state_users-requires : goal.state_users-requires
 state_users-requires c =

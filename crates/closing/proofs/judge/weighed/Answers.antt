@@ -7,6 +7,7 @@ use Rattle.rules.specs.State.{State}
 use Rattle.rules.specs.Answers.{verdict_of}
 use Rattle.rules.specs.Refusals.{debit_test, sum_tests}
 use Rattle.charges.specs.Month.{Month, Billed}
+use Rattle.credits.proofs.Amounts.{pb_summable, pv_summable}
 use Rattle.closing.specs.Judged.{Weighable}
 use Rattle.closing.proofs.Judging.{stops}
 use Rattle.closing.proofs.Weighing.{weights, agents_asked, few_users, total_asked, sums_order, debits_left, bill_asked}
@@ -47,10 +48,10 @@ pub shared_ref_as_front-uses : goal.shared_ref_as_front-uses
 shared_ref_as_front-uses c = few_users c.requires.1
 
 pub pb_total-pb-requires : goal.pb_total-pb-requires
-pb_total-pb-requires c = agents_asked c.requires.1
+pb_total-pb-requires c = pb_summable (agents_asked c.requires.1)
 
 pub pv_total-pv-requires : goal.pv_total-pv-requires
-pv_total-pv-requires c = agents_asked c.requires.1
+pv_total-pv-requires c = pv_summable (agents_asked c.requires.1)
 
 pub total-requires : goal.total-requires
 total-requires c = total_asked c.requires.1

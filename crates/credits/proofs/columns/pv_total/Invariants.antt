@@ -1,6 +1,4 @@
-use Rattle.ints.specs.Adding.{Added}
-use Rattle.rules.specs.Charges.{pvs}
 use Rattle.credits.proofs.columns.pv_total.Given as goal
 
-abbrev pub invariant-loop-agent : goal.invariant-loop-agent
-invariant-loop-agent l = Added (pvs l.agents) l.sum l.agent-index
+abbrev pub ghost-total_by : goal.ghost-total_by
+ghost-total_by a = λ agent. agent.pv

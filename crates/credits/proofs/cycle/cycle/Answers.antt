@@ -19,9 +19,9 @@ returns-then-month-lt7 c =
     let second = rw (to_z-of_z f, to_z-of_z (rem_fits p), mm p) at c.if-month-lt7.true in
     rw (to_z-of_z f, to_z-of_z (quot_fits p), to_z-of_z (less p), year p, second)
 
-pub returns : goal.returns
+pub returns-else-month-lt7 : goal.returns-else-month-lt7
 unfolding cycle_of
-returns c =
+returns-else-month-lt7 c =
     let f = c.ranges.month in
     let p = possible c.args.month c.requires in
     let first = rw (to_z-of_z f, to_z-of_z (rem_fits p), mm p) at c.if-month-lt7.false in

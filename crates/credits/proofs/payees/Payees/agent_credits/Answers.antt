@@ -15,7 +15,7 @@ use Rattle.rules.specs.Lists.{side_by_side}
 use Rattle.rules.specs.Most.{most_balance}
 use Rattle.rules.proofs.BoundsAgent.{amount}
 use Rattle.credits.specs.Payable.{Payable}
-use Rattle.credits.proofs.Amounts.{own_small, own_summable, own_total, pb_total, balance, fillable, parts_within, owed}
+use Rattle.credits.proofs.Amounts.{own_small, own_summable, own_total, pb_summable, pb_total, balance, fillable, parts_within, owed}
 use Rattle.credits.proofs.payees.Payees.agent_credits.Goals as goal
 
 module _ {debits last : ℤ} {line : MonthLine} {agents : List Agent} (p : Payable debits last line agents) where
@@ -93,3 +93,6 @@ returns c =
       VMANTs = parts;
       VCs = (rw (parts, c.own_credits.ensures) at c.add_each.ensures) ∙ sums_are _ _;
     }
+
+pub pb_total-requires : goal.pb_total-requires
+pb_total-requires c = pb_summable c.args.self.now.payable.lines
