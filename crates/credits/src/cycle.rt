@@ -3,7 +3,7 @@ ghost use Rattle.std.specs.Prelude.{◌≡◌, false};
 ghost use Rattle.rules.specs.Calendar.{impossible_month, cycle_month, cycle_of, settled_to};
 ghost use Rattle.rules.specs.Ranges.{MonthAfter};
 
-// Cycle month: July 1 to June 12; any other number has 0, as in the definition. A possible month is above 0, where % is mm.
+// Cycle month: July 1 to June 12. A possible month is above 0, where % is mm.
 #[tactic(auto, using(crate::proofs::Months::cycle_month_at, crate::proofs::Months::twelve))]
 pub(crate) fn cycle_month(month: i64) -> i64
     requires { impossible_month month ≡ false }
@@ -22,7 +22,7 @@ pub(crate) fn cycle_month(month: i64) -> i64
         10 => 4,
         11 => 5,
         12 => 6,
-        _ => 0,
+        _ => unreachable!(),
     }
 }
 

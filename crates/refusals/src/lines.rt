@@ -1,10 +1,10 @@
 // Held credits, and the ons, agent and user lines: refusals 4 and 5.
 ghost use Rattle.std.specs.Prelude.{◌≡◌, ℕ, pos};
 ghost use Rattle.ints.specs.Range.{outside, eq_z};
-ghost use Rattle.rules.specs.Verdict.{Verdict, each_line};
+ghost use Rattle.rules.specs.Verdict.{Verdict, each_line, when};
 ghost use Rattle.rules.specs.Lines.{bad_amounts, bad_agent, bad_user};
 ghost use Rattle.rules.specs.Refusals.{credit_test, agent_test, user_test, lines_before_points};
-ghost use Rattle.rules.specs.Answers.{verdict_of};
+ghost use Rattle.rules.specs.Answers.{number_of, place_of, verdict_of};
 
 use ints::outside;
 use rules::{Agent, Kind, MonthLine, Refusal, User};
@@ -74,12 +74,12 @@ fn each_line<T, F: Fn(u64, &T) -> Result<(), Refusal>>(lines: &[T], test: F) -> 
     Ok(())
 }
 
-// A line's test, as `each_line` takes it; of the three each has its own line, test and refusal.
-fn credit_verdict(k: u64, credit: &i64) -> Result<(), Refusal>
-    ensures { verdict_of result ≡ credit_test k credit.now }
+// A line's test, as `each_line` takes it: this refusal, if the line is bad.
+fn refused_if(bad: bool, refusal: Refusal) -> Result<(), Refusal>
+    ensures { verdict_of result ≡ when bad (number_of refusal) (place_of refusal) }
 {
-    if outside(0, CREDIT, *credit) {
-        return Err(Refusal::BadCredit(k));
+    if bad {
+        return Err(refusal);
     }
     Ok(())
 }
@@ -88,25 +88,9 @@ fn credit_verdict(k: u64, credit: &i64) -> Result<(), Refusal>
 pub fn credits_verdict(credits: &[i64]) -> Result<(), Refusal>
     ensures { verdict_of result ≡ each_line credit_test 1 credits.now }
 {
-    each_line(credits, credit_verdict)
-}
-
-fn agent_verdict(k: u64, agent: &Agent) -> Result<(), Refusal>
-    ensures { verdict_of result ≡ agent_test k agent.now }
-{
-    if bad_agent(k, agent) {
-        return Err(Refusal::BadValue(k));
-    }
-    Ok(())
-}
-
-fn user_verdict(k: u64, user: &User) -> Result<(), Refusal>
-    ensures { verdict_of result ≡ user_test k user.now }
-{
-    if bad_user(k, user) {
-        return Err(Refusal::BadValue(k));
-    }
-    Ok(())
+    each_line(credits, |k, credit| {
+        refused_if(outside(0, CREDIT, *credit), Refusal::BadCredit(k))
+    })
 }
 
 // 5 of the ons, agent and user lines, in this order.
@@ -114,10 +98,12 @@ fn user_verdict(k: u64, user: &User) -> Result<(), Refusal>
 pub fn lines_before_points(line: MonthLine, agents: &[Agent], users: &[User]) -> Result<(), Refusal>
     ensures { verdict_of result ≡ lines_before_points line agents.now users.now }
 {
-    if outside(0, AMOUNT, line.ons) {
-        // the month line has no position
-        return Err(Refusal::BadValue(0));
-    }
-    each_line(agents, agent_verdict)?;
-    each_line(users, user_verdict)
+    // the month line has no position
+    refused_if(outside(0, AMOUNT, line.ons), Refusal::BadValue(0))?;
+    each_line(agents, |k, agent| {
+        refused_if(bad_agent(k, agent), Refusal::BadValue(k))
+    })?;
+    each_line(users, |k, user| {
+        refused_if(bad_user(k, user), Refusal::BadValue(k))
+    })
 }

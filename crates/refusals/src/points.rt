@@ -56,7 +56,8 @@ fn line_of(users: &[User], user: i64) -> Option<&User>
     users.get(i)
 }
 
-// The kind of the user with this number, or the number of no kind that its line has, 0 where there is no such user.
+// The kind of the user with this number, or the number that is no kind's: its line's, or 0 where there is no such user. The definition
+// has that number, and an `Option` would keep it back.
 #[tactic(auto, using(crate::proofs::Laws::no_kind))]
 pub fn kind_of(users: &[User], user: i64) -> Result<Kind, NoKind>
     ensures { ReadsKind (kind_of users.now user) result }
