@@ -54,7 +54,7 @@ fn weighed(held: &[i64], month: MonthLines, sums: &Sums) -> Result<Bills, Refusa
 }
 
 // 1 to 10, and the amounts of a month that breaks no limit. `first` is the verdict of 1 and 2, which look at the counts and at what a
-// call is lent: closing and statement are lent different slices. It is taken as it is, so that nothing is asked of it.
+// call is lent: closing and statement are lent different slices. It may be a refusal: that 1 and 2 are passed is not asked.
 pub fn judge(
     first: Result<(), Refusal>,
     standing: Standing,

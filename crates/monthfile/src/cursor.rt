@@ -1,4 +1,4 @@
-// A place in a text, from which the text is scanned or read on. What the scanner calls is inlined, for speed.
+// A place in a text, from which the text is scanned or read on. What a value takes is inlined, for speed.
 ghost use Rattle.std.specs.Prelude.{◌≡◌, ◌+◌, ◌≤◌, min, take, drop, length, slice_get, if◌then◌else◌};
 ghost use Rattle.std.specs.List.{prefix_len};
 ghost use Rattle.format.specs.Bytes.{is_digit};

@@ -1,4 +1,4 @@
-// One file of a text scanned (paper 01, "The month file", refusals 11 and 12): its blocks one after the other, each byte looked at once,
+// One file of a text scanned (paper 01, "The month file", refusals 11 and 12): its blocks one after the other, each byte passed once,
 // in its order.
 ghost use Rattle.std.specs.Prelude.{◌≡◌};
 ghost use Rattle.format.specs.Blocks.{slices};
@@ -8,9 +8,9 @@ use crate::cursor::Cursor;
 use crate::names::{AGENTS, MONTH, POINTS, USERS};
 use format::Fault;
 
-// What a value or a line takes is inlined: with text and place in registers the file check keeps pace with one written by hand.
+// The steps of a line are inlined: with text and place in registers the file check is near one written by hand.
 
-// How many lines the slices lent for them take. Of usize, since a scan counts them down; what 1 tests of a month are `Counts`.
+// How many lines the slices lent for them take. The counts that 1 tests of a month are `refusals`', on which reading does not stand.
 #[derive(Clone, Copy)]
 pub(crate) struct Room {
     pub agents: usize,

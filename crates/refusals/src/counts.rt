@@ -5,6 +5,7 @@ ghost use Rattle.rules.specs.Refusals.{bad_users, bad_agents, bad_counts, short_
 ghost use Rattle.rules.specs.Answers.{lent_place, verdict_of};
 ghost use Rattle.rules.specs.Calls.{state_of};
 
+use crate::refused_if;
 use rules::{AGENTS, Ledger, Lengths, Lent, MonthLines, POINTS, Refusal, USERS};
 
 // How many lines a month has of each kind.
@@ -16,6 +17,7 @@ pub struct Counts {
 }
 
 impl Counts {
+    // No `From`: its law would stand as a function in the impl, no plainer than this clause.
     pub fn of(month: MonthLines) -> Counts
         ensures { result ≡ record { users = length month.entry.users.now; agents = length month.entry.agents.now; points = length month.entry.points.now } }
     {
@@ -31,10 +33,7 @@ impl Counts {
 pub fn long_enough(lent: Lent, entries: u64, needed: u64) -> Result<(), Refusal>
     ensures { verdict_of result ≡ when (ltb entries needed) 2 (lent_place lent) }
 {
-    if entries < needed {
-        return Err(Refusal::ShortSlice(lent));
-    }
-    Ok(())
+    refused_if(entries < needed, Refusal::ShortSlice(lent))
 }
 
 // 1, of counts alone: one outside 1 to 512 users, 1 to 256 agents.
@@ -55,7 +54,7 @@ pub fn opening_verdict(users: u64, agents: u64, held: u64) -> Result<(), Refusal
     long_enough(Lent::Held, held, users)
 }
 
-// 1 at a closing, of the counts of its lines; the held credits play no part.
+// 1 of a month, by the counts of its lines; the held credits play no part.
 #[tactic(auto, unfolding(rules::specs::Refusals::bad_counts))]
 fn bad_counts(ledger: Ledger, counts: Counts) -> bool
     ensures { (held : List ℤ) → result ≡ bad_counts (state_of ledger held) counts.users counts.agents counts.points }
@@ -71,10 +70,7 @@ pub fn counts_verdict(ledger: Ledger, counts: Counts) -> Result<(), Refusal>
     ensures { (credits : List ℤ) → verdict_of result
         ≡ when (bad_counts (state_of ledger credits) counts.users counts.agents counts.points) 1 0 }
 {
-    if bad_counts(ledger, counts) {
-        return Err(Refusal::BadCounts);
-    }
-    Ok(())
+    refused_if(bad_counts(ledger, counts), Refusal::BadCounts)
 }
 
 // 2: the first slice that is too short, for a ledger whose counts passed 1; the credits play no part.

@@ -1,11 +1,12 @@
 // Held credits, and the ons, agent and user lines: refusals 4 and 5.
 ghost use Rattle.std.specs.Prelude.{◌≡◌, ℕ, pos};
 ghost use Rattle.ints.specs.Range.{outside, eq_z};
-ghost use Rattle.rules.specs.Verdict.{Verdict, each_line, when};
+ghost use Rattle.rules.specs.Verdict.{Verdict, each_line};
 ghost use Rattle.rules.specs.Lines.{bad_amounts, bad_agent, bad_user};
-ghost use Rattle.rules.specs.Refusals.{credit_test, agent_test, user_test, lines_before_points};
-ghost use Rattle.rules.specs.Answers.{number_of, place_of, verdict_of};
+ghost use Rattle.rules.specs.Refusals.{credit_test, lines_before_points};
+ghost use Rattle.rules.specs.Answers.{verdict_of};
 
+use crate::refused_if;
 use ints::outside;
 use rules::{Agent, Kind, MonthLine, Refusal, User};
 
@@ -70,16 +71,6 @@ fn each_line<T, F: Fn(u64, &T) -> Result<(), Refusal>>(lines: &[T], test: F) -> 
 {
     for (i, line) in lines.iter().enumerate() {
         test(i as u64 + 1, line)?;
-    }
-    Ok(())
-}
-
-// A line's test, as `each_line` takes it: this refusal, if the line is bad.
-fn refused_if(bad: bool, refusal: Refusal) -> Result<(), Refusal>
-    ensures { verdict_of result ≡ when bad (number_of refusal) (place_of refusal) }
-{
-    if bad {
-        return Err(refusal);
     }
     Ok(())
 }

@@ -5,6 +5,7 @@ ghost use Rattle.rules.specs.Calendar.{impossible_month};
 ghost use Rattle.rules.specs.Refusals.{bad_month};
 ghost use Rattle.rules.specs.Answers.{verdict_of};
 
+use crate::refused_if;
 use ints::outside;
 use rules::Refusal;
 
@@ -21,8 +22,6 @@ pub(crate) fn impossible_month(m: i64) -> bool
 pub fn month_verdict(last: i64, month: i64) -> Result<(), Refusal>
     ensures { verdict_of result ≡ when (bad_month last month) 3 0 }
 {
-    if impossible_month(month) || month <= last {
-        return Err(Refusal::BadMonth);
-    }
-    Ok(())
+    let bad = impossible_month(month) || month <= last;
+    refused_if(bad, Refusal::BadMonth)
 }

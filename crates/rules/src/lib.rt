@@ -7,7 +7,8 @@ mod outcomes;
 pub use kinds::{Kind, NoKind};
 pub use outcomes::{Lent, Outcome, Refusal};
 
-// The most users, agents, payees and points of a month (paper 01, "A month's lines"). Nothing is allocated: there is fixed room for so many.
+// The most users, agents, payees and points of a month (paper 01, "A month's lines"). Nothing is allocated: what is kept by
+// user, agent or payee stands in arrays of so many.
 pub const USERS: usize = 512;
 
 pub const AGENTS: usize = 256;

@@ -105,8 +105,8 @@ impl fmt::Display for Refusal {
 
 impl Error for Refusal {}
 
-// The answer of opening or closing, with the ledger that holds from then on. Both are there in either case: the paper has a refused opening
-// answer a ledger of zeros, and a refused closing leave the one that it was handed.
+// The answer of opening or closing, with the ledger that holds from then on. Both are there in either case: of zeros after a refused
+// opening (paper 01), the one that was handed in after a refused closing (`Closes`).
 #[derive(Clone, Copy, Debug, PartialEq, Eq)]
 pub struct Outcome {
     pub answer: Result<(), Refusal>,

@@ -66,7 +66,7 @@ fn print_report<P: Report, R: io::Input + io::Print>(rt: &R) -> Result<(), Failu
     let input = input::read_all(rt, &mut buffer).map_err(Failure::Reading)?;
     let printed = match input {
         Some(text) => files::print_months::<P, R>(rt, text),
-        // which line is too many is not known
+        // the whole input is too long, at no line
         None => rt.println(Refusal::TooManyLines(0)),
     };
     printed.map_err(Failure::Writing)

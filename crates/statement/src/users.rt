@@ -10,7 +10,7 @@ use crate::UserRow;
 use closing::judge::Judged;
 use rules::{USERS, User};
 
-// What users are charged and owe, column by column: an entry for each user. Columns, since `share::fill` and the table of cells take them.
+// What users are charged and owe, column by column: an entry for each user. Columns, as `charges` has them.
 #[derive(Clone, Copy)]
 pub struct Columns<'a> {
     pub uses: &'a [i64],
