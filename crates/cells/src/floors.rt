@@ -47,8 +47,8 @@ fn add(left: &mut u64, rest: u64, w: u64) -> u64
 impl Marking<'_> {
     // The floors of row i, whose credit is v, and which of its cells are broken. The remainders are added to the columns' sums, `wants`
     // times w and `lefts`; those of the row are what it lacks, in whole multiples of w. A column's sum is one number in two slices, since
-    // after the floors `wants` goes on alone. Four of its six parameters are what `floors`
-    // is lent: a struct of them would be made there and taken apart here.
+    // after the floors `wants` goes on alone. Four of the parameters are what `floors` is lent: a struct of them would be made there and
+    // taken apart here.
     fn floor_row(
         &mut self,
         i: usize,

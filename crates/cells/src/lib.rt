@@ -24,7 +24,7 @@ fn cent(mark: u64) -> i64
     i64::from(mark == MARKED)
 }
 
-// Adds the marks to the floors. Not by `ints::add_by`: `cent` asks that it is a mark.
+// Adds the marks to the floors. Not by `ints::add_by`: what that asks stays open, and the kit counts no answer of ours to it.
 fn post(cells: &mut [i64], table: &Marking)
     requires { PostAsks cells.old table.now.marks.now }
     ensures { Posted cells.old table.now.marks.now cells.new (length cells.old) }
