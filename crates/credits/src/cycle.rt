@@ -22,7 +22,8 @@ pub(crate) fn cycle_month(month: i64) -> i64
         10 => 4,
         11 => 5,
         12 => 6,
-        _ => unreachable!(),
+        // as in the definition; no month of a year comes here
+        _ => 0,
     }
 }
 

@@ -4,7 +4,7 @@
 -- are; `Passed` is all that an accepted month has passed; `Sizes`, `Entries` and `ByLine` are the lengths and the entries of its lists of
 -- amounts.
 -- A loop over its lines: `Turns` is one test of each line, turn by turn; `Answers` reads an answer off its verdict, and `Told` has an
--- answer for each verdict.
+-- answer for each verdict; `Pins` writes out what a refusal tells.
 -- Its table: `Near` is the one cent; `Direct` has the direct charges in it; `Slice` reads it in the slice that it stands in; `OneTable`: of
 -- whole values there is one.
 -- A rounding: `HalfUp` is the one number that lies so near.
@@ -31,6 +31,7 @@ pub mod Entries
 pub mod Turns
 pub mod Answers
 pub mod Told
+pub mod Pins
 pub mod Near
 pub mod Direct
 pub mod Slice

@@ -1,5 +1,5 @@
 -- The next file, read into the programs' room: the month is its lines, and the reader goes on behind it. Assumes nothing.
-use Prim.Native.Nat.{ℕ}
+use Prim.Native.Nat.{ℕ, zero, suc, ◌<◌}
 use mathlib.Core.Path.{◌≡◌, refl, ap, sym, ◌∙◌}
 use mathlib.Core.List.{List}
 use native.Mathlib.Omega.{arith}
@@ -19,15 +19,16 @@ use Rattle.monthfile.specs.Reads.{Gives, Reads, as_agents, as_users, as_points, 
 use Rattle.monthfile.specs.declared.reader.Reader.{Reader}
 use Rattle.monthfile.specs.declared.reading.Header.{Header}
 use Rattle.runs.specs.declared.months.Month.{Month}
-use Rattle.runs.specs.declared.months.TheConstants.{AGENTS, USERS, POINTS}
-use Rattle.runs.specs.Runs.{Advances, lines_in, ReadsNext}
+use Rattle.rules.specs.Calls.{Opens}
+use Rattle.runs.specs.declared.books.Books.{Books}
+use Rattle.runs.specs.Runs.{Advances, lines_in, ReadsNext, OpensBooks, Begins}
 
 -- what was read stands in front
 front : {A : Type 0} (xs ys : List A) (n : ℕ) → n ≡ length xs → take n (over xs ys) ≡ xs
 front xs ys n e = rw e (take-append_seam xs (drop (length xs) ys))
 
 abbrev next_file : Reader → ReadingAnswer
-next_file r = reading (slices AGENTS USERS POINTS) r.text.now r.at
+next_file r = reading (slices 16 64 256) r.text.now r.at
 
 module _ (before after : Reader) (text : after.text ≡ before.text) where
   -- the next one begins further on
@@ -36,13 +37,13 @@ module _ (before after : Reader) (text : after.text ≡ before.text) where
     where
       by : (x : ReadingAnswer) → next_file before ≡ x → ReadsNext x (Ok m) before after → Advances before after
       by (accepted f next) q s =
-          let on = next_within (slices AGENTS USERS POINTS) before.text.now before.at next f q in
+          let on = next_within (slices 16 64 256) before.text.now before.at next f q in
           record { text = text; further = omega (arith, on.0, s.2); within = rw (text, s.2) on.1 }
       by (refused n p) q s = cc
 
   module _
       (ags ags' : List Agent) (us us' : List User) (ps ps' : List Point)
-      (a : length ags ≡ AGENTS) (u : length us ≡ USERS) (p : length ps ≡ POINTS) where
+      (a : length ags ≡ 16) (u : length us ≡ 64) (p : length ps ≡ 256) where
     on_month :
         (x : ReadingAnswer) (h : Header)
         → Gives x ags us ps ags' us' ps' (Ok h)
@@ -85,3 +86,33 @@ module _ (before after : Reader) (text : after.text ≡ before.text) where
         → after.at ≡ before.at
         → ReadsNext (next_file before) (Err e) before after
     next_refused e g = on_refused (next_file before) e (rw (a, u, p) at g)
+
+-- the month of a file that was read, on the ledger that its counts opened, or on the one that was open
+module _ (m : Month) (before after : Reader) (books books' : Books) where
+  opens_at : (x : ReadingAnswer)
+      → ReadsNext x (Ok m) before after
+      → OpensBooks before.at (length m.lines.users.now) (length m.lines.agents.now) books (Ok tt) books'
+      → Begins x (Ok m) before after books books'
+  opens_at (accepted f next) r o =
+      let u : length m.lines.users.now ≡ length (as_users f) = ap (λ (l : Lines). length l.users) r.0 in
+      let a : length m.lines.agents.now ≡ length (as_agents f) = ap (λ (l : Lines). length l.agents) r.0 in
+      (Ok tt, (rw (sym u, sym a) o, (r.0, (r.1, r.2))))
+  opens_at (refused n p) r o = cc
+
+  pub begins_first : (x : ReadingAnswer)
+      → ReadsNext x (Ok m) before after
+      → before.at ≡ 0
+      → Opens (length m.lines.users.now) (length m.lines.agents.now) books.held (record { answer = Ok tt; ledger = books'.ledger }) books'.held
+      → Begins x (Ok m) before after books books'
+  begins_first x r e o = opens_at x r (rw e o)
+
+  pub begins_later : (x : ReadingAnswer)
+      → ReadsNext x (Ok m) before after
+      → 0 < before.at
+      → books' ≡ books
+      → Begins x (Ok m) before after books books'
+  begins_later x r l e = opens_at x r (by before.at l)
+    where
+      by : (k : ℕ) → 0 < k → OpensBooks k (length m.lines.users.now) (length m.lines.agents.now) books (Ok tt) books'
+      by zero l = absurd (omega (arith, l))
+      by (suc k) l = (refl, e)

@@ -3,11 +3,13 @@ ghost use Rattle.statement.specs.Statement.{States};
 ghost use Rattle.rules.specs.Lines.{lines_of};
 
 use crate::books::Books;
+use crate::line::{Line, write_line, write_lines};
 use crate::months::{Month, PAYEES, POINTS, USERS};
-use crate::payees::{Payee, each_cell};
+use crate::payees::{Payee, each_row};
 use crate::report::{Report, Stop};
 use rules::{MonthLines, Refusal};
 use statement::{PayeeRow, PointRow, UserRow};
+use std::fmt::Write;
 use std::{fmt, io};
 
 pub(crate) struct Amounts;
@@ -20,10 +22,14 @@ impl Report for Amounts {
     fn month<R: io::Print>(rt: &R, books: &mut Books, month: Month<'_>) -> Result<(), Stop> {
         let mut rows = Rows::new();
         let balance = rows.state_and_close(books, month.lines)?;
+        let mut head = Line::new();
+        let yyyymm = month.lines.line.month;
+        write!(head, "{yyyymm},").map_err(io::Error::from)?;
         let printer = Printer {
             rt,
             month,
             rows: &rows,
+            head,
         };
         Ok(printer.amounts(balance, books)?)
     }
@@ -81,7 +87,6 @@ enum Of {
     Point(i64, usize),
     User(usize),
     Payee(Payee),
-    Cell(Payee, usize),
     Month,
 }
 
@@ -92,7 +97,6 @@ impl fmt::Display for Of {
             Of::Point(user, point) => write!(f, ",{user},{point}"),
             Of::User(user) => write!(f, ",{user},"),
             Of::Payee(payee) => write!(f, "{payee},,"),
-            Of::Cell(payee, user) => write!(f, "{payee},{user},"),
             Of::Month => write!(f, ",,"),
         }
     }
@@ -103,17 +107,19 @@ struct Printer<'a, R> {
     rt: &'a R,
     month: Month<'a>,
     rows: &'a Rows,
+    // the month, with which every line begins
+    head: Line,
 }
 
 impl<R: io::Print> Printer<'_, R> {
-    fn row(&self, item: &str, of: Of, cents: i64) -> io::Result<()> {
-        let month = self.month.lines.line.month;
-        println!(self.rt; "{month},{item},{of},{cents}")
-    }
-
     fn rows(&self, of: Of, amounts: &[(&str, i64)]) -> io::Result<()> {
+        let mut columns = Line::new();
+        write!(columns, "{of}")?;
+        let columns = columns.as_str();
         for (item, cents) in amounts {
-            self.row(item, of, *cents)?;
+            let mut line = self.head;
+            writeln!(line, "{item},{columns},{cents}")?;
+            write_line(self.rt, &line)?;
         }
         Ok(())
     }
@@ -167,9 +173,15 @@ impl<R: io::Print> Printer<'_, R> {
         self.rows(Of::Payee(Payee::Ons), &amounts)
     }
 
+    fn row_of_cells(&self, payee: Payee, cents: &[i64]) -> io::Result<()> {
+        let mut head = self.head;
+        write!(head, "cell,{payee},")?;
+        write_lines(self.rt, head, ",,", cents)
+    }
+
     fn cells(&self, books: &Books) -> io::Result<()> {
-        each_cell(books, self.month, |payee: Payee, user: usize, cents: i64| {
-            self.row("cell", Of::Cell(payee, user), cents)
+        each_row(books, self.month, |payee: Payee, cents: &[i64]| {
+            self.row_of_cells(payee, cents)
         })
     }
 
@@ -178,7 +190,7 @@ impl<R: io::Print> Printer<'_, R> {
         self.users()?;
         self.agents()?;
         self.ons()?;
-        self.row("SMSE", Of::Month, balance)?;
+        self.rows(Of::Month, &[("SMSE", balance)])?;
         self.cells(books)
     }
 }

@@ -1,11 +1,11 @@
 // The programs over month files (paper 01, "The month file"). Each reads standard input whole and closes file after file; they differ in
-// what they print of a month. A line is written by one `println`, which puts it together first: the system alone can cut one. (std's writes
-// at 1,024 bytes; of ours the longest has four numbers of at most 20 bytes.)
+// what they print of a month.
 //   input    standard input, up to its limit
 //   files    file after file
 //   months   a month's lines, and the room that they are read into
 //   books    the ledger with its held credits, and what else a closing writes
-//   payees   who receives, and a month's cells
+//   payees   who receives, and the rows of a month's cells
+//   line     a line of a month
 //   report   what a program is called and what it prints
 //   table    the report of `settle`: cells and held credits
 //   amounts  the report of `consulta`: every amount of a month
@@ -15,6 +15,7 @@ mod amounts;
 mod books;
 mod files;
 mod input;
+mod line;
 mod months;
 mod payees;
 mod report;
@@ -62,7 +63,7 @@ fn run<P: Report, R: io::Input + io::Print + io::Eprint>(rt: &R) {
 // The names, then what is printed of each month.
 fn print_report<P: Report, R: io::Input + io::Print>(rt: &R) -> Result<(), Failure> {
     rt.println(P::COLUMNS).map_err(Failure::Writing)?;
-    let mut buffer = [0; input::ROOM];
+    let mut buffer = input::buffer();
     let input = input::read_all(rt, &mut buffer).map_err(Failure::Reading)?;
     let printed = match input {
         Some(text) => files::print_months::<P, R>(rt, text),

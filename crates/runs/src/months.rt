@@ -2,7 +2,6 @@
 ghost use Rattle.std.specs.Prelude.{◌≤◌, OnOk, length};
 ghost use Rattle.format.specs.Blocks.{slices};
 ghost use Rattle.format.specs.Reading.{reading};
-ghost use Rattle.runs.specs.declared.months.TheConstants.{AGENTS, USERS, POINTS};
 
 use monthfile::reader::Reader;
 use rules::{Agent, MonthLines, Point, Refusal, User};
@@ -20,9 +19,9 @@ pub(crate) const POINTS: usize = 256;
 #[derive(Clone, Copy)]
 pub(crate) struct Month<'a> {
     pub lines: MonthLines<'a>,
-    ghost few_agents: { length lines.agents.now ≤ AGENTS },
-    ghost few_users: { length lines.users.now ≤ USERS },
-    ghost few_points: { length lines.points.now ≤ POINTS },
+    ghost few_agents: { length lines.agents.now ≤ 16 },
+    ghost few_users: { length lines.users.now ≤ 64 },
+    ghost few_points: { length lines.points.now ≤ 256 },
 }
 
 // Room for the lines of a file.
@@ -46,7 +45,7 @@ impl Lines {
 
     // The month of the next file, behind which the reader goes on.
     pub(crate) fn read(&mut self, reader: &mut Reader<'_>) -> Result<Month<'_>, Refusal>
-        ensures reads { ReadsNext (reading (slices AGENTS USERS POINTS) reader.old.text.now reader.old.at)
+        ensures reads { ReadsNext (reading (slices 16 64 256) reader.old.text.now reader.old.at)
             result reader.old reader.new }
         ensures advances { OnOk result (Advances reader.old reader.new) }
     {

@@ -21,9 +21,8 @@ impl fmt::Display for Payee {
     }
 }
 
-// Prints each cell of a month with its payee and its user: the agents' rows in order, then ONS's. There is a cell for each, so that `zip`
-// leaves none out.
-pub(crate) fn each_cell<F: Fn(Payee, usize, i64) -> io::Result<()>>(
+// Prints each payee's row of a month's cells: the agents' in order, then ONS's. There is a row for each, so that `zip` leaves none out.
+pub(crate) fn each_row<F: Fn(Payee, &[i64]) -> io::Result<()>>(
     books: &Books,
     month: Month<'_>,
     print: F,
@@ -31,11 +30,11 @@ pub(crate) fn each_cell<F: Fn(Payee, usize, i64) -> io::Result<()>>(
     requires { F.IsAlwaysCallable print }
 {
     let agents = month.lines.agents.len();
-    let users = month.lines.users.len();
     let payees = (1..=agents).map(Payee::Agent).chain(iter::once(Payee::Ons));
-    let places = payees.flat_map(|payee| (1..=users).map(move |user| (payee, user)));
-    for ((payee, user), cents) in places.zip(&books.cells) {
-        print(payee, user, *cents)?;
+    // a month has users; without any there would be no cell
+    let rows = books.cells.chunks(month.lines.users.len().max(1));
+    for (payee, row) in payees.zip(rows) {
+        print(payee, row)?;
     }
     Ok(())
 }

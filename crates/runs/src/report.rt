@@ -1,4 +1,7 @@
 // What a program is called and what it prints.
+ghost use Rattle.std.specs.Prelude.{◌≡◌};
+ghost use Rattle.runs.specs.declared.report.Stop.TheVariants.{Refused, Failed};
+
 use crate::books::Books;
 use crate::months::Month;
 use rules::Refusal;
@@ -12,12 +15,16 @@ pub(crate) enum Stop {
 }
 
 impl From<Refusal> for Stop {
+    ghost from_gives = { λ refusal stop. stop ≡ Refused refusal };
+
     fn from(refusal: Refusal) -> Stop {
         Stop::Refused(refusal)
     }
 }
 
 impl From<io::Error> for Stop {
+    ghost from_gives = { λ error stop. stop ≡ Failed error };
+
     fn from(error: io::Error) -> Stop {
         Stop::Failed(error)
     }

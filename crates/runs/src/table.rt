@@ -1,8 +1,10 @@
 // The report of `settle` (paper 01, "The month file"): a closed month's cells, payee by payee, and the new held credits.
 use crate::books::Books;
+use crate::line::{Line, write_lines};
 use crate::months::Month;
-use crate::payees::{Payee, each_cell};
+use crate::payees::{Payee, each_row};
 use crate::report::{Report, Stop};
+use std::fmt::Write;
 use std::io;
 
 pub(crate) struct Table;
@@ -18,14 +20,15 @@ impl Report for Table {
     }
 }
 
+fn print_row<R: io::Print>(rt: &R, month: i64, payee: Payee, cents: &[i64]) -> io::Result<()> {
+    let mut head = Line::new();
+    write!(head, "{month},{payee},")?;
+    write_lines(rt, head, ",", cents)
+}
+
 fn print_table<R: io::Print>(rt: &R, books: &Books, month: Month<'_>) -> io::Result<()> {
     let yyyymm = month.lines.line.month;
-    let amount = |payee: Payee, user: usize, cents: i64| {
-        println!(rt; "{yyyymm},{payee},{user},{cents}")
-    };
-    each_cell(books, month, &amount)?;
-    for (user, cents) in (1..=month.lines.users.len()).zip(&books.held) {
-        amount(Payee::Held, user, *cents)?;
-    }
-    Ok(())
+    let print = |payee: Payee, cents: &[i64]| print_row(rt, yyyymm, payee, cents);
+    each_row(books, month, &print)?;
+    print(Payee::Held, &books.held[..month.lines.users.len()])
 }

@@ -2,8 +2,8 @@
 use Rattle.std.proofs.Common.{◌≡◌, length, ◌-◌}
 use Rattle.runs.proofs.files.each_file.Given as goal
 
-abbrev pub invariant-loop-reader : goal.invariant-loop-reader
-invariant-loop-reader g l = l.reader.text.now ≡ l.text
+abbrev pub invariant-loop-month : goal.invariant-loop-month
+invariant-loop-month g l = l.reader.text.now ≡ l.text
 
-abbrev pub decreases-loop-reader : goal.decreases-loop-reader
-decreases-loop-reader g l = length l.text - l.reader.at
+abbrev pub decreases-loop-month : goal.decreases-loop-month
+decreases-loop-month g l = length l.text - l.reader.at
