@@ -14,13 +14,16 @@ pub record Fraction (part w f : ℕ) : Type 0 where
   pub low : f * w ≤ part * 2 ^ 63
   pub high : part * 2 ^ 63 < f * w + w
 
--- an amount and a sum within their limits, and those three numbers of them
+-- an amount within its limit, and those three numbers of it and of w
 pub record Rated (amount : ℤ) (w whole part fraction : ℕ) : Type 0 where
   pub most : abs amount ≤ 100000000000000000
-  pub total : w ≤ 100000000000000000
   pub sum : abs amount ≡ whole * w + part
   pub less : part < w
   pub rounded : Fraction part w fraction
+
+-- t is a weight of w, a sum within its limit
+abbrev pub Weight : ℕ → ℕ → Type 0
+Weight t w = (t ≤ w) × (w ≤ 100000000000000000)
 
 -- a quotient and a remainder below the divisor are the only ones
 pub divided_is : (x w q r : ℕ) (d : Divided ℕ) → d.quot ≡ q → d.rem ≡ r → q * w + r ≡ x → r < w → d ≡ divided x w

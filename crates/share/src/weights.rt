@@ -4,7 +4,7 @@ ghost use Rattle.std.specs.Prelude.{◌≡◌, ◌*◌, ◌<◌, ◌≤◌, pos,
 ghost use Rattle.ints.specs.Bridge.{abs};
 ghost use Rattle.ints.specs.Rest.{Split};
 ghost use Rattle.wide.specs.Exact.{divided};
-ghost use Rattle.share.specs.Rate.{Rated};
+ghost use Rattle.share.specs.Rate.{Rated, Weight};
 
 use super::scaled;
 use wide::Divided;
@@ -24,7 +24,7 @@ pub struct Rate {
 impl Rate {
     pub fn of(amount: i64, w: u64) -> Rate
         requires amount { abs amount ≤ 100000000000000000 }
-        requires w { (0 < w) × (w ≤ 100000000000000000) }
+        requires w { 0 < w }
         ensures amount { result.amount ≡ amount }
         ensures w { result.w ≡ w }
     {
@@ -42,7 +42,7 @@ impl Rate {
 
     // part × t over w: the fraction's product is the quotient or one less, so the low words tell what it leaves.
     fn part_at(self, t: u64) -> Divided
-        requires { t ≤ self.w }
+        requires { Weight t self.w }
         ensures { result ≡ divided (self.part * t) self.w }
     {
         let q = multiply(self.fraction, 2 * t);
@@ -64,7 +64,7 @@ impl Rate {
 
     // The size × t over w.
     fn size_at(self, t: u64) -> Divided
-        requires { t ≤ self.w }
+        requires { Weight t self.w }
         ensures { result ≡ divided (abs self.amount * t) self.w }
     {
         let n = multiply(self.amount.unsigned_abs(), t);
@@ -83,7 +83,7 @@ impl Rate {
 
     // The amount × t over w, rounded down: what is below 0 goes by its size, and a remainder takes it one further down.
     pub fn at(self, t: u64) -> Divided<i64>
-        requires { t ≤ self.w }
+        requires { Weight t self.w }
         ensures { Split (self.amount *ℤ pos t) self.w result.quot result.rem }
     {
         let d = self.size_at(t);

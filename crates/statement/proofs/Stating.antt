@@ -82,6 +82,9 @@ module _ (g : Ledger) (held : List ℤ) (l : Lines) (xs : List PointRow) (ys : L
     room : LongEnough (state_of g held) (record { held = length held; points = length xs; users = length ys; payees = length zs }) (length l.points)
     room = long_enough _ _ _ (slices_accepted (state_of g held) short l passes)
 
+    pub few_agents : length l.agents ≤ 256
+    few_agents = omega (arith, p.agents, p.few_agents)
+
     -- every slice has the room, and the part of it that is lent is as long as its rows are many
     pub held_lent : length l.users ≡ length (take (length l.users) held)
     held_lent = sym (length-take-le _ held (omega (arith, p.users, room.held)))

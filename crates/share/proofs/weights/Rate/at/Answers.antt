@@ -5,12 +5,13 @@ use Rattle.ints.specs.Words.{back#}
 use Rattle.wide.specs.declared.Divided.{Divided}
 use Rattle.wide.specs.Exact.{divided}
 use Rattle.share.specs.declared.weights.Rate.{Rate}
+use Rattle.share.specs.Rate.{Weight}
 use Rattle.share.proofs.Signs.{Parts, parts, above, whole, broken, word, minus, minus_one}
 use Rattle.share.proofs.weights.Rate.at.Goals as goal
 
-module _ (k : Rate) {t : ℕ} {d : Divided ℕ} (h : t ≤ k.w) (e : d ≡ divided (abs k.amount * t) k.w) where
+module _ (k : Rate) {t : ℕ} {d : Divided ℕ} (h : Weight t k.w) (e : d ≡ divided (abs k.amount * t) k.w) where
   known : Parts (abs k.amount) t k.w d
-  known = parts (abs k.amount) t k.w d h (omega (arith, k.rated.less)) e
+  known = parts (abs k.amount) t k.w d h.0 (omega (arith, k.rated.less)) e
 
   small : d.quot ≤ 100000000000000000
   small = le_trans known.quot_le k.rated.most
@@ -26,6 +27,15 @@ overflow_cast-q c = omega (za, small c.args.self c.requires c.size_at-d.ensures)
 
 pub overflow_sub-result : goal.overflow_sub-result
 overflow_sub-result c = simp (word_is c.args.self c.requires c.size_at-d.ensures) (minus_fits c.args.self c.requires c.size_at-d.ensures)
+
+pub overflow_sub-result-else-d-eq0 : goal.overflow_sub-result-else-d-eq0
+overflow_sub-result-else-d-eq0 c = simp (word_is c.args.self c.requires c.size_at-d.ensures) (minus_fits c.args.self c.requires c.size_at-d.ensures)
+
+pub overflow_sub-result-else-d-eq0-2 : goal.overflow_sub-result-else-d-eq0-2
+overflow_sub-result-else-d-eq0-2 c =
+    let k = c.args.self in
+    simp (word_is k c.requires c.size_at-d.ensures, to_z-of_z, minus_fits k c.requires c.size_at-d.ensures)
+    (minus_one c.size_at-d.result.quot (small k c.requires c.size_at-d.ensures))
 
 pub returns-then-self-ge0 : goal.returns-then-self-ge0
 returns-then-self-ge0 c =

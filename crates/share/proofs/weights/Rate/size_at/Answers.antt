@@ -4,10 +4,10 @@ use Rattle.ints.specs.Bridge.{abs}
 use Rattle.wide.specs.declared.Divided.{Divided}
 use Rattle.wide.specs.Exact.{divided}
 use Rattle.share.specs.declared.weights.Rate.{Rate}
-use Rattle.share.specs.Rate.{share_le, divided_is}
+use Rattle.share.specs.Rate.{Weight, share_le, divided_is}
 use Rattle.share.proofs.weights.Rate.size_at.Goals as goal
 
-module _ (k : Rate) {t : ℕ} {d : Divided ℕ} (h : t ≤ k.w) (e : d ≡ divided (k.part * t) k.w) where
+module _ (k : Rate) {t : ℕ} {d : Divided ℕ} (h : Weight t k.w) (e : d ≡ divided (k.part * t) k.w) where
   sum : d.quot * k.w + d.rem ≡ k.part * t
   sum = rw e (div-add-mod' (k.part * t) k.w)
 
@@ -18,7 +18,7 @@ module _ (k : Rate) {t : ℕ} {d : Divided ℕ} (h : t ≤ k.w) (e : d ≡ divid
   small = rw e (mod-lt (k.part * t) positive)
 
   quot_le : k.whole * t + d.quot ≤ abs k.amount
-  quot_le = share_le (abs k.amount) k.whole k.part k.w t d.quot positive h k.rated.sum (omega (arith, sum))
+  quot_le = share_le (abs k.amount) k.whole k.part k.w t d.quot positive h.0 k.rated.sum (omega (arith, sum))
 
 pub overflow_add-result : goal.overflow_add-result
 overflow_add-result c = let k = c.args.self in omega (arith, quot_le k c.requires c.part_at-d.ensures, k.rated.most)
