@@ -1,12 +1,11 @@
 -- Digits, signs and the ends of lines read at a cursor (format's `read_digits`, `read_value`, `past_end`). Assumes nothing.
-use Rattle.std.proofs.Common.{ℕ, zero, suc, ◌+◌, ◌-◌, ◌*◌, ◌^◌, ◌≤◌, ◌<◌, ◌≡◌, refl, ap, sym, ◌∙◌, subst, Bool, true, false, cond, List, [], ◌∷◌, length}
-use Rattle.std.proofs.Common.{get_or, take, drop, ℤ, pos, neg_ℤ, ◌-ℤ◌, eqb, arith}
+use Rattle.std.proofs.Common.{ℕ, zero, suc, ◌+◌, ◌-◌, ◌*◌, ◌^◌, ◌≤◌, ◌<◌, ◌≡◌, refl, ap, sym, ◌∙◌, subst, Bool, true, false, cond, List, [], ◌∷◌}
+use Rattle.std.proofs.Common.{drop, ℤ, pos, neg_ℤ, ◌-ℤ◌, eqb, arith, Some, None}
+use Rattle.std.specs.List.{slice_get}
+use Rattle.std.proofs.lemmas.Option.{slice_get_within, get_or_from_slice_get}
 use mathlib.Core.Bool.{false≢true}
 use lib.IntN.{+ℤ_idl}
-use Rattle.std.specs.List.{fold}
-use Rattle.std.proofs.Math.Numerals.{one-add, add-one}
-use Rattle.std.proofs.lemmas.List.{take_more, length-take, get_or-take}
-use Rattle.std.proofs.lemmas.List.Sums.{prefix_len_passes, prefix_len-le-length, fold-append}
+use Rattle.std.proofs.Math.Numerals.{add-one}
 use native.Mathlib.Nat.{pow-suc, pow-le-pow_right}
 use mir.Syntax.{w64}
 use mir.Val.{to_z, of_z, SFits}
@@ -15,66 +14,9 @@ use borrow.Author.Tests.{lt-ltb}
 use Rattle.format.specs.Bytes.{cr, minus, is_digit, is_digit_lem, Digit}
 use Rattle.format.specs.Values.{Got, read_digits, read_value, with_sign, past_end}
 use Rattle.monthfile.specs.declared.cursor.Cursor.{Cursor}
-use Rattle.monthfile.specs.Cursor.{rest, byte_here, digits_here, Passed}
+use Rattle.monthfile.specs.Cursor.{rest, byte_here, Passed}
 use Rattle.monthfile.specs.At.{GotAt}
 use Rattle.monthfile.proofs.Joining.{moved}
-
--- a digit read on
-abbrev pub step : ℕ → ℕ → ℕ
-step n b = n * 10 + (b - 48)
-
--- digits read on from n are those that come first
-digits_read : (k n : ℕ) (u : List ℕ) → read_digits k n u ≡ record { got = fold step n (take (digits_here k u) u); left = drop (digits_here k u) u }
-unfolding read_digits
-digits_read zero n u = refl
-digits_read (suc k) n [] = refl
-digits_read (suc k) n (b ∷ u) = by (is_digit b) (digits_read k (step n b) u)
-  where
-    j : ℕ
-    j = digits_here k u
-
-    by : (q : Bool) → read_digits k (step n b) u ≡ record { got = fold step (step n b) (take j u); left = drop j u }
-        → cond q (read_digits k (step n b) u) (record { got = n; left = b ∷ u })
-        ≡ record { got = fold step n (take (cond q (1 + j) 0) (b ∷ u)); left = drop (cond q (1 + j) 0) (b ∷ u) }
-    by true h = rw (one-add j) h
-    by false h = refl
-
-pub all_read : {c d : Cursor} {ds : List ℕ} {n : ℕ}
-    → ds ≡ take (digits_here 18 (rest c)) (rest c) → Passed c d (digits_here 18 (rest c)) → n ≡ fold step 0 ds
-    → GotAt (read_digits 18 0 (rest c)) n d
-all_read {c} e p h =
-    let r = digits_read 18 0 (rest c) in
-    record {
-      got = h ∙ ap (fold step 0) e ∙ sym (ap (λ (g : Got ℕ). g.got) r);
-      left = moved p ∙ sym (ap (λ (g : Got ℕ). g.left) r);
-    }
-
--- one digit more
-pub one_more : (ds : List ℕ) (n i : ℕ) → i < length ds → n ≡ fold step 0 (take i ds) → step n (get_or ds i 0) ≡ fold step 0 (take (i + 1) ds)
-one_more ds n i h e =
-    ap (λ (k : ℕ). step k (get_or ds i 0)) e
-    ∙ sym (ap (fold step 0) (take_more ds i 0 h) ∙ fold-append step 0 (take i ds) (get_or ds i 0 ∷ []))
-
--- what comes first are digits, at most so many
-pub record Digits (m : ℕ) (ds : List ℕ) : Type 0 where
-  pub few : length ds ≤ m
-  pub each : (i : ℕ) → i < length ds → Digit (get_or ds i 0)
-
-first_digits : (m : ℕ) (u : List ℕ) → Digits m (take (digits_here m u) u)
-first_digits m u =
-    let n : ℕ = digits_here m u in
-    let a = prefix_len-le-length is_digit (take m u) in
-    record {
-      few = omega (arith, length-take m u, length-take n u);
-      each = λ i h.
-          let l : i < n = omega (arith, length-take n u) in
-          let k : i < m = omega (arith, length-take m u) in
-          let e : get_or (take n u) i 0 ≡ get_or (take m u) i 0 = get_or-take n u i 0 l ∙ sym (get_or-take m u i 0 k) in
-          (is_digit_lem (get_or (take n u) i 0)).0 (ap is_digit e ∙ prefix_len_passes is_digit (take m u) i 0 l);
-    }
-
-pub digits_are : (m : ℕ) (ds u : List ℕ) → ds ≡ take (digits_here m u) u → Digits m ds
-digits_are m ds u e = subst (Digits m) (sym e) (first_digits m u)
 
 -- one digit more keeps below the next power of ten, and 18 digits below 10^18
 pub more_below : (k n d : ℕ) → n < 10 ^ k → d < 10 → n * 10 + d < 10 ^ (k + 1)
@@ -85,6 +27,63 @@ below_all k n h b =
     let z : 0 < 10 = omega arith in
     let p : 10 ^ k ≤ 10 ^ 18 = pow-le-pow_right z h in
     omega arith
+
+-- read on from n: a digit first, another byte, no byte, and no more that may be read
+one : (k n b : ℕ) (u : List ℕ) → slice_get u 0 ≡ Some b → is_digit b ≡ true → read_digits (suc k) n u ≡ read_digits k (n * 10 + (b - 48)) (drop 1 u)
+unfolding read_digits
+one k n b [] h e = let l = slice_get_within [] 0 b h in absurd (omega arith)
+one k n b (x ∷ u) h e = rw (get_or_from_slice_get (x ∷ u) 0 b 0 h, e)
+
+other : (k n b : ℕ) (u : List ℕ) → slice_get u 0 ≡ Some b → is_digit b ≡ false → read_digits k n u ≡ record { got = n; left = u }
+unfolding read_digits
+other zero n b u h e = refl
+other (suc k) n b [] h e = refl
+other (suc k) n b (x ∷ u) h e = let q : x ≡ b = get_or_from_slice_get (x ∷ u) 0 b 0 h in rw (q, e)
+
+none : (k n : ℕ) (u : List ℕ) → slice_get u 0 ≡ None → read_digits k n u ≡ record { got = n; left = u }
+unfolding read_digits
+none zero n u h = refl
+none (suc k) n [] h = refl
+none (suc k) n (x ∷ u) h = absurd (cc)
+
+spent : (k n : ℕ) (u : List ℕ) → k ≡ 0 → read_digits k n u ≡ record { got = n; left = u }
+unfolding read_digits
+spent zero n u e = refl
+spent (suc k) n u e = absurd (omega arith)
+
+-- DIGITS read at c: k of them, n so far, and the cursor is now d
+pub record SoFar (c d : Cursor) (k n : ℕ) : Type 0 where
+  pub is : read_digits 18 0 (rest c) ≡ read_digits (18 - k) n (rest d)
+  pub below : n < 10 ^ k
+
+module _ {c d : Cursor} {k n : ℕ} (s : SoFar c d k n) where
+  -- the digits are over
+  over : read_digits (18 - k) n (rest d) ≡ record { got = n; left = rest d } → GotAt (read_digits 18 0 (rest c)) n d
+  over e =
+      let a = s.is ∙ e in
+      record { got = sym (ap (λ (g : Got ℕ). g.got) a); left = sym (ap (λ (g : Got ℕ). g.left) a) }
+
+  pub all_read : 18 ≤ k → GotAt (read_digits 18 0 (rest c)) n d
+  all_read h = over (spent (18 - k) n (rest d) (omega arith))
+
+  pub text_over : slice_get (rest d) 0 ≡ None → GotAt (read_digits 18 0 (rest c)) n d
+  text_over h = over (none (18 - k) n (rest d) h)
+
+  module _ {b : ℕ} (h : slice_get (rest d) 0 ≡ Some b) where
+    pub no_digit : is_digit b ≡ false → GotAt (read_digits 18 0 (rest c)) n d
+    no_digit e = over (other (18 - k) n b (rest d) h e)
+
+    pub a_digit : (e : Cursor) → k < 18 → Digit b → Passed d e 1 → SoFar c e (k + 1) (n * 10 + (b - 48))
+    a_digit e l t p =
+        let m : ℕ = 18 - (k + 1) in
+        let q : 18 - k ≡ suc m = omega arith in
+        record {
+          is = s.is
+              ∙ ap (λ (i : ℕ). read_digits i n (rest d)) q
+              ∙ one m n b (rest d) h ((is_digit_lem b).1 t)
+              ∙ ap (read_digits m (n * 10 + (b - 48))) (sym (moved p));
+          below = more_below k n (b - 48) s.below (omega (arith, t.low, t.high));
+        }
 
 -- a value: its sign, and its digits
 sign_read : (u : List ℕ) (q : Bool) → q ≡ byte_here minus u → read_value u ≡ with_sign q (read_digits 18 0 (drop (cond q 1 0) u))

@@ -20,24 +20,35 @@ impl Cursor<'_> {
     ghost use Rattle.monthfile.specs.Cursor.{rest};
     ghost use Rattle.monthfile.specs.At.{GotAt, Filled};
 
+    // What a value takes is inlined, for speed: text and place stay in registers.
+
     // The number of the digits here, at most 18. No `parse`: the bytes need be no text, and the digits end where they end.
+    #[inline(always)]
     fn read_digits(&mut self) -> u64
         ensures read { GotAt (read_digits 18 0 (rest self.old)) result self.new }
         ensures small { result < 10 ^ 18 }
     {
         let mut number = 0;
-        for &digit in self.digits(18) {
+        for _ in 0..18_usize {
+            let Some(digit @ b'0'..=b'9') = self.byte() else {
+                return number;
+            };
             number = number * 10 + u64::from(digit - b'0');
+            self.at += 1;
         }
         number
     }
 
+    #[inline(always)]
     fn read_value(&mut self) -> i64
         ensures { GotAt (read_value (rest self.old)) result self.new }
     {
-        let negative = self.eat(b'-');
-        let number = self.read_digits() as i64;
-        if negative { -number } else { number }
+        // Each sign reads its own digits, for speed: after a sign that is kept, each value would wait for the one before.
+        if self.eat(b'-') {
+            -(self.read_digits() as i64)
+        } else {
+            self.read_digits() as i64
+        }
     }
 
     // Past the end of a line, LF or CR LF.

@@ -1,43 +1,42 @@
 -- Assumes nothing.
-use Rattle.std.proofs.Common.{ℕ, ◌+◌, ◌*◌, ◌∙◌, ap, arith}
-use Rattle.std.specs.List.{fold}
-use Rattle.std.proofs.lemmas.List.{take_all}
-use Rattle.monthfile.specs.Cursor.{rest}
-use Rattle.monthfile.proofs.DigitSteps.{step, all_read, one_more, digits_are, more_below, below_all}
+use Rattle.std.proofs.Common.{sym, ◌∙◌, refl, arith}
+use Rattle.std.proofs.lemmas.Bool.Decides.{nat_tests}
+use Rattle.format.specs.Bytes.{Digit}
+use Rattle.monthfile.proofs.DigitSteps.{all_read, text_over, no_digit, a_digit, below_all}
 use Rattle.monthfile.proofs.cursor.Cursor.read_digits.Goals as goal
 
-pub overflow_mul-number : goal.overflow_mul-number
-overflow_mul-number c =
-    let d = digits_are 18 _ (rest c.args.self.now) c.digits-digit-items.ensures.digits in
-    let b = below_all _ _ (omega (arith, d.few)) c.loop-digit.invariant.below in
-    omega arith
+pub returns-in_default-clause-read : goal.returns-in_default-clause-read
+returns-in_default-clause-read c = no_digit c.loop.invariant (sym c.byte.ensures ∙ c.in_default.is) (grind (arith, nat_tests))
 
-pub overflow_sub-digit : goal.overflow_sub-digit
-overflow_sub-digit c = ((digits_are 18 _ (rest c.args.self.now) c.digits-digit-items.ensures.digits).each _ (omega arith)).low
+pub returns-in_default-clause-small : goal.returns-in_default-clause-small
+returns-in_default-clause-small c = below_all c.loop.counter _ (omega arith) c.loop.invariant.below
+
+pub returns-in_default-2-clause-read : goal.returns-in_default-2-clause-read
+returns-in_default-2-clause-read c = no_digit c.loop.invariant (sym c.byte.ensures ∙ c.in_default.is) (grind (arith, nat_tests))
+
+pub returns-in_default-2-clause-small : goal.returns-in_default-2-clause-small
+returns-in_default-2-clause-small c = below_all c.loop.counter _ (omega arith) c.loop.invariant.below
+
+pub returns-in_default-3-clause-read : goal.returns-in_default-3-clause-read
+returns-in_default-3-clause-read c = text_over c.loop.invariant (sym c.byte.ensures ∙ c.in_default.is)
+
+pub returns-in_default-3-clause-small : goal.returns-in_default-3-clause-small
+returns-in_default-3-clause-small c = below_all c.loop.counter _ (omega arith) c.loop.invariant.below
+
+pub overflow_mul-number : goal.overflow_mul-number
+overflow_mul-number c = let b = below_all c.loop.counter _ (omega arith) c.loop.invariant.below in omega arith
 
 pub overflow_add-number : goal.overflow_add-number
-overflow_add-number c =
-    let d = digits_are 18 _ (rest c.args.self.now) c.digits-digit-items.ensures.digits in
-    let e = d.each c.loop-digit.digit-index (omega arith) in
-    let b = below_all _ _ (omega (arith, d.few)) c.loop-digit.invariant.below in
-    omega (arith, e.low, e.high)
+overflow_add-number c = let b = below_all c.loop.counter _ (omega arith) c.loop.invariant.below in omega arith
 
-pub loop-digit-preserved : goal.loop-digit-preserved
-loop-digit-preserved c =
-    let e = (digits_are 18 _ (rest c.args.self.now) c.digits-digit-items.ensures.digits).each c.loop-digit.digit-index (omega arith) in
-    record {
-      number = ap (λ (x : ℕ). c.loop-digit.number * 10 + x) c.from.ensures
-          ∙ one_more c.digits-digit-items.result.now _ c.loop-digit.digit-index (omega arith) c.loop-digit.invariant.number;
-      below = more_below _ _ _ c.loop-digit.invariant.below (omega (arith, e.low, e.high));
-    }
+pub loop-preserved : goal.loop-preserved
+loop-preserved c =
+    let d : Digit c.in-Some-48-to-57.digit = record { low = omega arith; high = omega arith } in
+    rw c.from.ensures
+    (a_digit c.loop.invariant (sym c.byte.ensures ∙ c.in-Some-48-to-57.is) _ (omega arith) d (record { at = refl; text = refl }))
 
 pub returns-clause-read : goal.returns-clause-read
-returns-clause-read c =
-    let ds = c.digits-digit-items.result.now in
-    all_read c.digits-digit-items.ensures.digits c.digits-digit-items.ensures.passed
-    (c.loop-digit.invariant.number ∙ ap (fold step 0) (take_all c.loop-digit.digit-index ds (omega arith)))
+returns-clause-read c = all_read c.loop.invariant (omega arith)
 
 pub returns-clause-small : goal.returns-clause-small
-returns-clause-small c =
-    let d = digits_are 18 _ (rest c.args.self.now) c.digits-digit-items.ensures.digits in
-    below_all _ _ (omega (arith, d.few)) c.loop-digit.invariant.below
+returns-clause-small c = below_all c.loop.counter _ (omega arith) c.loop.invariant.below

@@ -2,12 +2,11 @@
 use Rattle.monthfile.proofs.DigitSteps.{plain_value, minus_value}
 use Rattle.monthfile.proofs.cursor.Cursor.read_value.Goals as goal
 
-pub returns-then-negative : goal.returns-then-negative
-returns-then-negative c =
-    minus_value _ c.eat-negative.new.self _ _ _ c.eat-negative.ensures.here c.eat-negative.ensures.passed
-    c.read_digits-number.ensures.read c.read_digits-number.ensures.small c.if-negative.true
+pub returns-then-eat : goal.returns-then-eat
+returns-then-eat c =
+    minus_value _ c.eat.new.self _ _ _ c.eat.ensures.here c.eat.ensures.passed c.read_digits.ensures.read c.read_digits.ensures.small c.if-eat.true
 
-pub returns-else-negative : goal.returns-else-negative
-returns-else-negative c =
-    plain_value _ c.eat-negative.new.self _ _ _ c.eat-negative.ensures.here c.eat-negative.ensures.passed
-    c.read_digits-number.ensures.read c.read_digits-number.ensures.small c.if-negative.false
+pub returns-else-eat : goal.returns-else-eat
+returns-else-eat c =
+    plain_value _ c.eat.new.self _ _ _ c.eat.ensures.here c.eat.ensures.passed
+    c.read_digits-else-eat.ensures.read c.read_digits-else-eat.ensures.small c.if-eat.false
