@@ -36,7 +36,7 @@ fn lines_verdict(month: MonthLines) -> Result<Sums, Refusal>
     ensures { Scans (lines_of month.entry) result }
 {
     refusals::lines::lines_before_points(month.line, month.agents, month.users)?;
-    charges::scan::scan(month.points, month.users)
+    Ok(charges::scan::scan(month.points, month.users)?)
 }
 
 // 8, 9 and 10 of a month whose lines have passed, and its amounts. `held` has one entry for each user.

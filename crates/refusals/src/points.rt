@@ -2,12 +2,12 @@
 ghost use Rattle.std.specs.Prelude.{◌≡◌, true, false, MatchOption, ℤ, pos, length};
 ghost use Rattle.ints.specs.Range.{outside};
 ghost use Rattle.rules.specs.Lines.{kind_of, bad_band, bad_point, unfit_point};
-ghost use Rattle.rules.specs.Kinds.{IsKind, ReadsKind};
+ghost use Rattle.rules.specs.Kinds.{IsKind};
 ghost use Rattle.rules.specs.Refusals.{point_test};
 ghost use Rattle.rules.specs.Answers.{verdict_of};
 
 use ints::outside;
-use rules::{Kind, NoKind, Point, Refusal, User};
+use rules::{Kind, Point, Refusal, User};
 
 // Of a tariff, of a discount in percent, of a power.
 const TARIFF: i64 = 100_000;
@@ -56,13 +56,12 @@ fn line_of(users: &[User], user: i64) -> Option<&User>
     users.get(i)
 }
 
-// The kind of the user with this number, or the number that is no kind's: its line's, or 0 where there is no such user. The definition
-// has that number, and an `Option` would keep it back.
+// The number of the kind of the user with this number, 0 where there is none.
 #[tactic(auto, using(crate::proofs::Laws::no_kind))]
-pub fn kind_of(users: &[User], user: i64) -> Result<Kind, NoKind>
-    ensures { ReadsKind (kind_of users.now user) result }
+pub fn kind_of(users: &[User], user: i64) -> i64
+    ensures { result ≡ kind_of users.now user }
 {
-    Kind::try_from(line_of(users, user).map_or(0, |line| line.kind))
+    line_of(users, user).map_or(0, |line| line.kind)
 }
 
 // The point line at position k: 5, then 6, then 7.

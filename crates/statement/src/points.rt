@@ -6,14 +6,14 @@ ghost use Rattle.statement.specs.Writes.{InRange};
 
 use crate::PointRow;
 use charges::point::PointInRange;
-use rules::{Point, User};
+use rules::{Kind, Point, User};
 
 // Use charge and overrun of a point.
 fn row(users: &[User], p: Point) -> PointRow
     requires { bad_point p ≡ false }
     ensures { result ≡ point_row users.now p }
 {
-    let kind = refusals::points::kind_of(users, p.user).ok();
+    let kind = Kind::try_from(refusals::points::kind_of(users, p.user)).ok();
     let point = PointInRange { point: p };
     PointRow {
         use_charge: point.use_charge(),
