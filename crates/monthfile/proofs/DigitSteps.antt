@@ -1,8 +1,9 @@
 -- Digits, signs and the ends of lines read at a cursor (format's `read_digits`, `read_value`, `past_end`). Assumes nothing.
 use Rattle.std.proofs.Common.{ℕ, zero, suc, ◌+◌, ◌-◌, ◌*◌, ◌^◌, ◌≤◌, ◌<◌, ◌≡◌, refl, ap, sym, ◌∙◌, subst, Bool, true, false, cond, List, [], ◌∷◌}
-use Rattle.std.proofs.Common.{drop, ℤ, pos, neg_ℤ, ◌-ℤ◌, eqb, arith, Some, None}
-use Rattle.std.specs.List.{slice_get}
-use Rattle.std.proofs.lemmas.Option.{slice_get_within, get_or_from_slice_get}
+use Rattle.std.proofs.Common.{length, get_or, take, min, drop, ℤ, pos, neg_ℤ, ◌-ℤ◌, eqb, arith}
+use lib.ListN.{length-drop}
+use Rattle.std.proofs.lemmas.List.{length-take, get_or-take}
+use lib.Seq.{drop-cons}
 use mathlib.Core.Bool.{false≢true}
 use lib.IntN.{+ℤ_idl}
 use Rattle.std.proofs.Math.Numerals.{add-one}
@@ -28,33 +29,42 @@ below_all k n h b =
     let p : 10 ^ k ≤ 10 ^ 18 = pow-le-pow_right z h in
     omega arith
 
--- read on from n: a digit first, another byte, no byte, and no more that may be read
-one : (k n b : ℕ) (u : List ℕ) → slice_get u 0 ≡ Some b → is_digit b ≡ true → read_digits (suc k) n u ≡ read_digits k (n * 10 + (b - 48)) (drop 1 u)
-unfolding read_digits
-one k n b [] h e = let l = slice_get_within [] 0 b h in absurd (omega arith)
-one k n b (x ∷ u) h e = rw (get_or_from_slice_get (x ∷ u) 0 b 0 h, e)
+-- read on from n: no more, another byte first, or a digit
+module _ (n : ℕ) where
+  ended : (k : ℕ) (u : List ℕ) → min k (length u) ≡ 0 → read_digits k n u ≡ record { got = n; left = u }
+  unfolding read_digits
+  ended zero u e = refl
+  ended (suc k) [] e = refl
+  ended (suc k) (b ∷ u) e = absurd (omega arith)
 
-other : (k n b : ℕ) (u : List ℕ) → slice_get u 0 ≡ Some b → is_digit b ≡ false → read_digits k n u ≡ record { got = n; left = u }
-unfolding read_digits
-other zero n b u h e = refl
-other (suc k) n b [] h e = refl
-other (suc k) n b (x ∷ u) h e = let q : x ≡ b = get_or_from_slice_get (x ∷ u) 0 b 0 h in rw (q, e)
+  other : (k b : ℕ) (u : List ℕ) → is_digit b ≡ false → read_digits k n (b ∷ u) ≡ record { got = n; left = b ∷ u }
+  unfolding read_digits
+  other zero b u e = refl
+  other (suc k) b u e = rw e
 
-none : (k n : ℕ) (u : List ℕ) → slice_get u 0 ≡ None → read_digits k n u ≡ record { got = n; left = u }
-unfolding read_digits
-none zero n u h = refl
-none (suc k) n [] h = refl
-none (suc k) n (x ∷ u) h = absurd (cc)
+  one : (k b : ℕ) (u : List ℕ) → is_digit b ≡ true → read_digits (suc k) n (b ∷ u) ≡ read_digits k (n * 10 + (b - 48)) u
+  unfolding read_digits
+  one k b u e = rw e
 
-spent : (k n : ℕ) (u : List ℕ) → k ≡ 0 → read_digits k n u ≡ record { got = n; left = u }
-unfolding read_digits
-spent zero n u e = refl
-spent (suc k) n u e = absurd (omega arith)
+-- the i-th of the bytes from here, of which at most m are looked at
+pub record Looked (m i b : ℕ) (u : List ℕ) : Type 0 where
+  pub early : i < m
+  pub inside : i < length u
+  pub is : b ≡ get_or u i 0
+
+pub looked_at : (l m i : ℕ) (u : List ℕ) → i < length (take m (take l u)) → Looked m i (get_or (take m (take l u)) i 0) u
+looked_at l m i u h =
+    let a = length-take m (take l u) in
+    let b = length-take l u in
+    let e : i < m = omega arith in
+    let f : i < l = omega arith in
+    record { early = e; inside = omega arith; is = get_or-take m (take l u) i 0 e ∙ get_or-take l u i 0 f }
 
 -- DIGITS read at c: k of them, n so far, and the cursor is now d
 pub record SoFar (c d : Cursor) (k n : ℕ) : Type 0 where
   pub is : read_digits 18 0 (rest c) ≡ read_digits (18 - k) n (rest d)
   pub below : n < 10 ^ k
+  pub passed : Passed c d k
 
 module _ {c d : Cursor} {k n : ℕ} (s : SoFar c d k n) where
   -- the digits are over
@@ -63,26 +73,39 @@ module _ {c d : Cursor} {k n : ℕ} (s : SoFar c d k n) where
       let a = s.is ∙ e in
       record { got = sym (ap (λ (g : Got ℕ). g.got) a); left = sym (ap (λ (g : Got ℕ). g.left) a) }
 
-  pub all_read : 18 ≤ k → GotAt (read_digits 18 0 (rest c)) n d
-  all_read h = over (spent (18 - k) n (rest d) (omega arith))
+  pub all_read : (m : ℕ) → m ≡ min (length (take (length c.text.now - c.at) (rest c))) 18
+      → length (take m (take (length c.text.now - c.at) (rest c))) ≤ k → GotAt (read_digits 18 0 (rest c)) n d
+  all_read m e f =
+      let l : ℕ = length c.text.now - c.at in
+      let g = ap length (moved s.passed) in
+      let r = length-drop c.at c.text.now in
+      over (ended n (18 - k) (rest d) (omega (arith, length-drop k (rest c), length-take l (rest c), length-take m (take l (rest c)))))
 
-  pub text_over : slice_get (rest d) 0 ≡ None → GotAt (read_digits 18 0 (rest c)) n d
-  text_over h = over (none (18 - k) n (rest d) h)
+  pub small : (m : ℕ) (u : List ℕ) → k ≤ length (take m u) → m ≤ 18 → n < 1_000_000_000_000_000_000
+  small m u e f = below_all k n (omega (arith, length-take m u)) s.below
 
-  module _ {b : ℕ} (h : slice_get (rest d) 0 ≡ Some b) where
+  module _ {m b : ℕ} (h : Looked m k b (rest c)) where
+    here : rest d ≡ b ∷ drop (k + 1) (rest c)
+    here = moved s.passed ∙ rw (add-one, h.is) (drop-cons (rest c) k 0 h.inside)
+
     pub no_digit : is_digit b ≡ false → GotAt (read_digits 18 0 (rest c)) n d
-    no_digit e = over (other (18 - k) n b (rest d) h e)
+    no_digit e =
+        over
+        (subst (λ (u : List ℕ). read_digits (18 - k) n u ≡ record { got = n; left = u }) (sym here) (other n (18 - k) b (drop (k + 1) (rest c)) e))
 
     pub a_digit : (e : Cursor) → k < 18 → Digit b → Passed d e 1 → SoFar c e (k + 1) (n * 10 + (b - 48))
     a_digit e l t p =
         let m : ℕ = 18 - (k + 1) in
         let q : 18 - k ≡ suc m = omega arith in
+        let f : Passed c e (k + 1) = record { at = omega (arith, s.passed.at, p.at); text = p.text ∙ s.passed.text } in
         record {
           is = s.is
               ∙ ap (λ (i : ℕ). read_digits i n (rest d)) q
-              ∙ one m n b (rest d) h ((is_digit_lem b).1 t)
-              ∙ ap (read_digits m (n * 10 + (b - 48))) (sym (moved p));
+              ∙ ap (read_digits (suc m) n) here
+              ∙ one n m b (drop (k + 1) (rest c)) ((is_digit_lem b).1 t)
+              ∙ ap (read_digits m (n * 10 + (b - 48))) (sym (moved f));
           below = more_below k n (b - 48) s.below (omega (arith, t.low, t.high));
+          passed = f;
         }
 
 -- a value: its sign, and its digits

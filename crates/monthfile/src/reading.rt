@@ -28,9 +28,10 @@ impl Cursor<'_> {
         ensures read { GotAt (read_digits 18 0 (rest self.old)) result self.new }
         ensures small { result < 10 ^ 18 }
     {
+        let here = &self.text[self.at..];
         let mut number = 0;
-        for _ in 0..18_usize {
-            let Some(digit @ b'0'..=b'9') = self.byte() else {
+        for &byte in &here[..here.len().min(18)] {
+            let digit @ b'0'..=b'9' = byte else {
                 return number;
             };
             number = number * 10 + u64::from(digit - b'0');

@@ -3,6 +3,7 @@
 use crate::call::Call;
 use crate::limits::full_months;
 use rateio_reference::ledger::close;
+use rateio_reference::lines::{Agent, MonthLines, User, CONSUMER};
 use rateio_reference::months::{sound_month, Counts, Style};
 use rateio_reference::refusals::MAX_HELD;
 use rateio_reference::rng::Rng;
@@ -36,7 +37,30 @@ fn months() -> Vec<(&'static str, Call)> {
     ]
 }
 
-/// Writes the program's input, with a time for each month; that for the first of them; and that for months of every style, closed once.
+/// A month whose table takes a search some 500 visits deep, one call within another: the dealing leaves one mark, for a row whose columns
+/// are all taken, and each column on the way has one row to turn to.
+fn deep_month(rng: &mut Rng) -> Call {
+    let (users, agents, odd) = (512, 256, 1_000_000_007_i64);
+    let sum = 2 * odd;
+    let mut debits: Vec<i64> = (2..users).map(|_| 2 * rng.between(1, (sum - odd) / users / 2)).collect();
+    debits.push(odd);
+    debits.push(sum - debits.iter().sum::<i64>());
+    let ons = 2000;
+    let mut credits = vec![odd, odd, 0];
+    credits.extend((3..agents).map(|_| 2 * rng.between(1, 1_000_000) * if rng.chance(50) { 1 } else { -1 }));
+    // the third agent alone takes the balance, whatever it is
+    let agent = |(number, ret): (i64, i64)| Agent::from_columns([number, i64::from(number == 3), 0, 0, 0, 0, ret]);
+    Call::close(MonthLines {
+        month: 202_401,
+        ons,
+        agents: (1..).zip(credits).map(agent).collect(),
+        users: (1..).zip(debits).map(|(number, ret)| User { number, kind: CONSUMER, ret, ong: 0 }).collect(),
+        points: vec![],
+    })
+}
+
+/// Writes the program's input, with a time for each month; that for the first of them; and that for months of every style and one with a
+/// deep search, closed once.
 pub fn write(timed: &str, first: &str, once: &str) {
     let script = |milliseconds: u64, calls: &[Call]| {
         let mut script = milliseconds.to_le_bytes().to_vec();
@@ -46,7 +70,9 @@ pub fn write(timed: &str, first: &str, once: &str) {
     let calls: Vec<Call> = months().into_iter().map(|(_, call)| call).collect();
     std::fs::write(timed, script(200, &calls)).expect("the input can be written");
     std::fs::write(first, script(400, &calls[..1])).expect("the input can be written");
-    std::fs::write(once, script(0, &full_months(&mut Rng::new(202_412)))).expect("the input can be written");
+    let mut every = full_months(&mut Rng::new(202_412));
+    every.push(deep_month(&mut Rng::new(202_413)));
+    std::fs::write(once, script(0, &every)).expect("the input can be written");
 }
 
 /// The least nanoseconds of the reference's closing.
