@@ -1,5 +1,5 @@
 // A line of a month. It is put together before it is written, so that the system alone can cut one; in a buffer of a line's length, what
-// many lines begin with once. (`println` takes one of 1,024 bytes and fills it byte by byte, which took half of a program's time.)
+// many lines begin with once. (`println` takes one of 1,024 bytes and fills it byte by byte, which took up to half of a program's instructions.)
 use arrayvec::ArrayString;
 use std::fmt::Write;
 use std::io;
