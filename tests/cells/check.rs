@@ -1,5 +1,6 @@
 // Tables of cells from the proved code, each checked against paper 01 by 128-bit arithmetic: every cell is the floor of
-// VC × VD / ΣVD, or that plus 1 where the value is not whole; every row totals VC, every column VD; nothing else is written.
+// VC × VD / ΣVD, or that plus 1 where the value is not whole; every row totals VC, every column VD; nothing else is written. Before
+// them shares of single rates: amount × weight / sum rounded down, and what is left.
 
 extern "C" {
     fn rateio_test_fill(
@@ -12,6 +13,7 @@ extern "C" {
         work: *mut u64,
         work_len: usize,
     );
+    fn rateio_test_at(amount: i64, w: u64, t: u64, rest: *mut u64) -> i64;
 }
 
 const LIMIT: i64 = 100_000_000_000_000_000;
@@ -242,6 +244,35 @@ fn month(shape: u64, r: &mut Random, payees: usize, users: usize) -> (Vec<i64>, 
     }
 }
 
+// A number up to `most`, as often as not within 3 of either end.
+fn near(r: &mut Random, most: i64) -> i64 {
+    let k = r.range(0, 3).min(most);
+    match r.range(0, 3) {
+        0 => k,
+        1 => most - k,
+        _ => r.range(0, most),
+    }
+}
+
+fn rates(count: u64) -> Result<(), String> {
+    let mut r = Random(count);
+    for _ in 0..count {
+        let most = [20, 1_000_000, LIMIT / 1_000, LIMIT][r.range(0, 3) as usize];
+        let w = near(&mut r, most).max(1);
+        let t = near(&mut r, w);
+        let size = near(&mut r, LIMIT);
+        let amount = if r.range(0, 1) == 0 { size } else { -size };
+        let mut rest = 0;
+        let share = unsafe { rateio_test_at(amount, w as u64, t as u64, &mut rest) };
+        let exact = amount as i128 * t as i128;
+        if (share as i128, rest as i128) != (exact.div_euclid(w as i128), exact.rem_euclid(w as i128)) {
+            return Err(format!("{amount} x {t} / {w}: {share}, rest {rest}"));
+        }
+    }
+    println!("{count} shares of rates: all as a division of 128 bits has them");
+    Ok(())
+}
+
 fn case_d() -> Result<(), String> {
     let (vc, vd) = ([632, 1238, 100], [296, 1674]);
     let cells = fill(&vc, &vd)?;
@@ -255,6 +286,7 @@ fn case_d() -> Result<(), String> {
 }
 
 fn run(tables: u64) -> Result<(), String> {
+    rates(2_000_000)?;
     case_d()?;
     let mut seen = [0_u64; SHAPES];
     let (mut cells, mut extra, mut broken_rows) = (0_usize, 0_usize, 0_usize);

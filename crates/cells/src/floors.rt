@@ -95,3 +95,22 @@ impl Marking<'_> {
         }
     }
 }
+
+// A table goes by rates of sums within their limit; that a rate of any sum answers is seen here.
+#[cfg(test)]
+mod tests {
+    use share::weights::AnyRate;
+    use wide::Divided;
+
+    // −14 over 3 is −5, and 1 is left.
+    #[test]
+    fn any_rate() -> Result<(), Divided<i64>> {
+        let rate = AnyRate::of(-7, 3);
+        let share = rate.at(2);
+        if share.quot == -5 && share.rem == 1 {
+            Ok(())
+        } else {
+            Err(share)
+        }
+    }
+}

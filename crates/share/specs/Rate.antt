@@ -15,8 +15,16 @@ pub record Fraction (part w f : ℕ) : Type 0 where
   pub high : part * 2 ^ 63 < f * w + w
 
 -- an amount within its limit, and those three numbers of it and of w
+pub record AnyRated (amount : ℤ) (w whole part fraction : ℕ) : Type 0 where
+  pub most : abs amount ≤ 100000000000000000
+  pub sum : abs amount ≡ whole * w + part
+  pub less : part < w
+  pub rounded : Fraction part w fraction
+
+-- an amount and a sum within their limits, and those three numbers of them
 pub record Rated (amount : ℤ) (w whole part fraction : ℕ) : Type 0 where
   pub most : abs amount ≤ 100000000000000000
+  pub total : w ≤ 100000000000000000
   pub sum : abs amount ≡ whole * w + part
   pub less : part < w
   pub rounded : Fraction part w fraction

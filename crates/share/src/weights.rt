@@ -4,7 +4,7 @@ ghost use Rattle.std.specs.Prelude.{◌≡◌, ◌*◌, ◌<◌, ◌≤◌, pos,
 ghost use Rattle.ints.specs.Bridge.{abs};
 ghost use Rattle.ints.specs.Rest.{Split};
 ghost use Rattle.wide.specs.Exact.{divided};
-ghost use Rattle.share.specs.Rate.{Rated, Weight};
+ghost use Rattle.share.specs.Rate.{AnyRated, Rated, Weight};
 
 use super::scaled;
 use wide::Divided;
@@ -12,17 +12,17 @@ use wide::product::multiply;
 
 // An amount over w, divided once for all its weights: its size is whole times w and part, and part over w is a fraction of 2^63.
 #[derive(Clone, Copy)]
-pub struct Rate {
+pub struct AnyRate {
     pub amount: i64,
     pub w: u64,
     whole: u64,
     part: u64,
     fraction: u64,
-    ghost rated: { Rated amount w whole part fraction },
+    ghost rated: { AnyRated amount w whole part fraction },
 }
 
-impl Rate {
-    pub fn of(amount: i64, w: u64) -> Rate
+impl AnyRate {
+    pub fn of(amount: i64, w: u64) -> AnyRate
         requires amount { abs amount ≤ 100000000000000000 }
         requires w { 0 < w }
         ensures amount { result.amount ≡ amount }
@@ -31,7 +31,7 @@ impl Rate {
         let size = amount.unsigned_abs();
         let part = size % w;
         let d = scaled(0x8000_0000_0000_0000, part, w);
-        Rate {
+        AnyRate {
             amount,
             w,
             whole: size / w,
@@ -101,5 +101,48 @@ impl Rate {
                 rem: self.w - d.rem,
             }
         }
+    }
+}
+
+// The same over a sum within its limit, as a month's is.
+#[derive(Clone, Copy)]
+pub struct Rate {
+    pub amount: i64,
+    pub w: u64,
+    whole: u64,
+    part: u64,
+    fraction: u64,
+    ghost rated: { Rated amount w whole part fraction },
+}
+
+impl Rate {
+    pub fn of(amount: i64, w: u64) -> Rate
+        requires amount { abs amount ≤ 100000000000000000 }
+        requires w { (0 < w) × (w ≤ 100000000000000000) }
+        ensures amount { result.amount ≡ amount }
+        ensures w { result.w ≡ w }
+    {
+        let rate = AnyRate::of(amount, w);
+        Rate {
+            amount: rate.amount,
+            w: rate.w,
+            whole: rate.whole,
+            part: rate.part,
+            fraction: rate.fraction,
+        }
+    }
+
+    pub fn at(self, t: u64) -> Divided<i64>
+        requires { t ≤ self.w }
+        ensures { Split (self.amount *ℤ pos t) self.w result.quot result.rem }
+    {
+        let rate = AnyRate {
+            amount: self.amount,
+            w: self.w,
+            whole: self.whole,
+            part: self.part,
+            fraction: self.fraction,
+        };
+        rate.at(t)
     }
 }

@@ -2,11 +2,11 @@
 use Rattle.std.proofs.Common.{◌≡◌, ℕ, ◌+◌, ◌-◌, ◌*◌, ◌%◌, ◌^◌, le_trans, refl, ap, arith}
 use Rattle.wide.specs.declared.Words.{Words}
 use Rattle.wide.specs.Exact.{words}
-use Rattle.share.specs.declared.weights.Rate.{Rate}
+use Rattle.share.specs.declared.weights.AnyRate.{AnyRate}
 use Rattle.share.specs.Rate.{Weight, Near, near, wrapped, divided_is}
-use Rattle.share.proofs.weights.Rate.part_at.Goals as goal
+use Rattle.share.proofs.weights.AnyRate.part_at.Goals as goal
 
-module _ (k : Rate) {t : ℕ} {q n y : Words} (h : Weight t k.w)
+module _ (k : AnyRate) {t : ℕ} {q n y : Words} (h : Weight t k.w)
     (q_is : q ≡ words (k.fraction * (2 * t))) (n_is : n ≡ words (k.part * t)) (y_is : y ≡ words (q.high * k.w)) where
   close_by : Near (k.part * t) k.w q.high
   close_by = rw q_is (near k.part k.fraction t k.w (omega (arith, k.rated.less)) (le_trans h.0 h.1) k.rated.rounded)

@@ -3,11 +3,11 @@ use Rattle.std.proofs.Common.{◌≡◌, ℕ, ◌+◌, ◌*◌, ◌<◌, ◌≤�
 use Rattle.ints.specs.Bridge.{abs}
 use Rattle.wide.specs.declared.Divided.{Divided}
 use Rattle.wide.specs.Exact.{divided}
-use Rattle.share.specs.declared.weights.Rate.{Rate}
+use Rattle.share.specs.declared.weights.AnyRate.{AnyRate}
 use Rattle.share.specs.Rate.{Weight, share_le, divided_is}
-use Rattle.share.proofs.weights.Rate.size_at.Goals as goal
+use Rattle.share.proofs.weights.AnyRate.size_at.Goals as goal
 
-module _ (k : Rate) {t : ℕ} {d : Divided ℕ} (h : Weight t k.w) (e : d ≡ divided (k.part * t) k.w) where
+module _ (k : AnyRate) {t : ℕ} {d : Divided ℕ} (h : Weight t k.w) (e : d ≡ divided (k.part * t) k.w) where
   sum : d.quot * k.w + d.rem ≡ k.part * t
   sum = rw e (div-add-mod' (k.part * t) k.w)
 
