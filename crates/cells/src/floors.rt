@@ -96,7 +96,7 @@ impl Marking<'_> {
     }
 }
 
-// A table goes by rates of sums within their limit; that a rate of any sum answers is seen here.
+// A table goes by `Rate`; that the calls of `AnyRate` answer is seen here.
 #[cfg(test)]
 mod tests {
     use share::weights::AnyRate;
